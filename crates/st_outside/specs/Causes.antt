@@ -1,0 +1,20 @@
+-- Counts that stand beside an answer and say what caused it. A count is a number of 64 bits that goes up to its
+-- type's last value and stands still there. The definitions are this project's own.
+use Rattle.std.specs.Prelude.{◌≡◌, ℕ, ◌+◌, ◌-◌, ◌^◌, ◌≤◌, min, Result, OnErr, MatchResult}
+
+-- the count has gone up, or stands at its type's last value
+abbrev pub Rose : ℕ → ℕ → Type 0
+Rose before now = min (before + 1) (2 ^ 64 - 1) ≤ now
+
+-- the count has gone up by more than n, or stands at its type's last value
+abbrev pub RoseBeyond : ℕ → ℕ → ℕ → Type 0
+RoseBeyond n before now = min (before + n + 1) (2 ^ 64 - 1) ≤ now
+
+-- the count never falls, and each error has raised it
+pub record HasCause {T E : Type 0} (before now : ℕ) (result : Result T E) : Type 0 where
+  pub later : before ≤ now
+  pub failed : OnErr result (Rose before now)
+
+-- a read that gives n bytes raises the count by n, up to its type's last value, and an error leaves it as it was
+abbrev pub Counts : {E : Type 0} → ℕ → ℕ → Result ℕ E → Type 0
+Counts before now result = MatchResult result (λ n. now ≡ min (before + n) (2 ^ 64 - 1)) (λ _. now ≡ before)
