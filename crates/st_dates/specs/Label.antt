@@ -1,0 +1,18 @@
+-- Labels and their formal count. Source: Time Required Reading, "The J2000 Epoch" and "Calendars and Spacecraft Time".
+use Rattle.std.specs.Prelude.{ℤ, pos, neg_ℤ, ◌+ℤ◌, ◌-ℤ◌, ◌*ℤ◌, ◌≤ℤ◌}
+use Rattle.st_dates.specs.declared.label.Label.{Label}
+
+-- seconds of formal counts as units of 10^-18 s
+abbrev pub units : ℤ → ℤ
+units seconds = seconds *ℤ pos 1_000_000_000_000_000_000
+
+-- The formal count of a label, in units past 2000-01-01 12:00:00: its day's 86,400 seconds each,
+-- less the half day from midnight to noon, and what has passed of its day.
+abbrev pub formal : Label → ℤ
+formal label = units ((label.day *ℤ pos 86_400) -ℤ pos 43_200) +ℤ label.of_day
+
+-- a formal count that calls take: at most 3,155,900,000 s in magnitude
+abbrev pub IsFormal : ℤ → Type 0
+IsFormal z =
+    (neg_ℤ (pos 3_155_900_000_000_000_000_000_000_000) ≤ℤ z)
+    × (z ≤ℤ pos 3_155_900_000_000_000_000_000_000_000)

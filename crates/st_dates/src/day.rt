@@ -1,0 +1,31 @@
+ghost use Rattle.std.specs.Prelude.{◌≡◌, ◌≤◌, ◌↔◌, pos, ◌≤ℤ◌, unsigned_abs, IsSome, IfSome};
+ghost use Rattle.st_dates.specs.Calendar.{day_number, IsCalendarDay};
+
+use jiff::civil::Date;
+
+/// The days from 1970-01-01, from which `jiff` counts, to 2000-01-01.
+const EPOCH: i32 = 10_957;
+
+/// The days from 2000-01-01 to a date of the Gregorian calendar, or `None` where the calendar has
+/// no such day. The year is from 0 to 9999.
+pub fn day_of(year: i32, month: u32, day: u32) -> Option<i32>
+    requires year_from { pos 0 ≤ℤ year }
+    requires year_to { year ≤ℤ pos 9999 }
+    ensures some { IsSome result ↔ IsCalendarDay (unsigned_abs year) month day }
+    ensures value { IfSome result (λ n. n ≡ day_number (unsigned_abs year) month day) }
+{
+    if month > 12 || day > 31 {
+        return None;
+    }
+    match Date::new(year as i16, month as i8, day as i8) {
+        Ok(date) => Some(number_of(date)),
+        Err(_) => None,
+    }
+}
+
+fn number_of(date: Date) -> i32
+    requires { pos 0 ≤ℤ date.year }
+    ensures { result ≡ day_number (unsigned_abs date.year) date.month date.day }
+{
+    date.to_plain().to_unix_epoch_day() - EPOCH
+}

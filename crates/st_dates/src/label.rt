@@ -1,0 +1,32 @@
+ghost use Rattle.std.specs.Prelude.{◌≡◌, neg_ℤ, pos, ◌≤ℤ◌};
+ghost use Rattle.st_dates.specs.Label.{formal, IsFormal};
+
+/// The first instant of the range that is answered, 1900-01-01 00:00, in units past J2000.
+pub const FIRST: i128 = -3_155_716_800_000_000_000_000_000_000;
+
+/// The last instant of that range, 2100-01-01 00:00, in units past J2000.
+pub const LAST: i128 = 3_155_716_800_000_000_000_000_000_000;
+
+/// The units in a second.
+const SECOND: i128 = 1_000_000_000_000_000_000;
+
+/// The units in a day of 86,400 s.
+const DAY: i128 = 86_400 * SECOND;
+
+/// A time of a calendar: a day, counted from 2000-01-01, and units of that day, from 0 to less than
+/// 86,401 s, so that a day's inserted second has a place.
+#[derive(Clone, Copy, Debug, PartialEq, Eq, Hash)]
+pub struct Label {
+    pub day: i32,
+    pub of_day: i128,
+}
+
+/// The formal count of a label, in units past J2000: every day counts 86,400 s, whatever it had.
+///
+/// The count is at most 3,155,900,000 s in magnitude.
+pub fn formal_of(label: Label) -> i128
+    requires { IsFormal (formal label) }
+    ensures { result ≡ formal label }
+{
+    label.day as i128 * DAY - DAY / 2 + label.of_day
+}

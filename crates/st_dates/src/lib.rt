@@ -1,0 +1,13 @@
+//! Days of the Gregorian calendar, labels of a day and its second, and the dates of a text kernel.
+//!
+//! Days are counted from 2000-01-01. Times are whole counts of units of 10^-18 s past
+//! 2000-01-01 12:00:00 (J2000), on a calendar whose days all have 86,400 s: the formal count.
+#![tactic(auto)]
+
+mod day;
+mod label;
+mod system;
+
+pub use day::day_of;
+pub use label::{FIRST, LAST, Label, formal_of};
+pub use system::System;
