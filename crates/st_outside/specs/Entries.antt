@@ -1,6 +1,6 @@
 -- Files as a map from names to bytes, both lists of bytes, kept as a list of entries. The definitions are this
 -- project's own.
-use Rattle.std.specs.Prelude.{◌≡◌, ◌≢◌, ℕ, List, [], ◌∷◌, Option, Some, None, if◌then◌else◌, bytes_eq, ⊤}
+use Rattle.std.specs.Prelude.{◌≡◌, ◌≢◌, ℕ, List, [], ◌∷◌, Option, Some, None, if◌then◌else◌, bytes_eq, slice_index_or, ⊤}
 
 -- the names with their bytes
 abbrev pub Entries : Type 0
@@ -26,3 +26,12 @@ Opens (Some entries) name (Some bytes) = bytes_of name entries ≡ Some bytes
 abbrev pub IsAbsent : Option Entries → List ℕ → Type 0
 IsAbsent None name = ⊤
 IsAbsent (Some entries) name = bytes_of name entries ≡ None
+
+-- no name stands twice
+abbrev pub HasDistinctNames : Entries → Type 0
+HasDistinctNames [] = ⊤
+HasDistinctNames (e ∷ es) = (bytes_of e.0 es ≡ None) × HasDistinctNames es
+
+-- the bytes of the entry at a place
+abbrev pub bytes_at : Entries → ℕ → List ℕ
+bytes_at entries place = (slice_index_or entries place ([], [])).1

@@ -5,8 +5,11 @@
 //! and they tie each fault to a count that rose in that call.
 #![tactic(auto)]
 
+mod bytes;
 mod faults;
+mod file_map;
 mod traits;
 
 pub use crate::faults::{Failed, OpenFault, OutOfMemory, SinkFault};
+pub use crate::file_map::FileMap;
 pub use crate::traits::{Files, Sink, Source};
