@@ -1,0 +1,30 @@
+-- Bytes of a text: blanks, and the digits that write a number. 48 is the byte of the digit 0.
+use Rattle.std.specs.Prelude.{ℕ, ◌+◌, ◌-◌, ◌*◌, ◌^◌, Bool, List, [], ◌∷◌, ◌++◌, length, map, replicate, ◌==◌, ◌||◌, if◌then◌else◌}
+use Rattle.std.specs.Char.{is_ascii_digit}
+use Rattle.std.specs.Int.Digits.{digits_of}
+use Rattle.std.specs.List.{list_all}
+
+-- a space or a tab, which NAIF's Kernel Required Reading counts as blanks
+abbrev pub is_blank : ℕ → Bool
+is_blank b = (b == 32) || (b == 9)
+
+-- whether every byte is a blank; so is each byte of a text that has none
+abbrev pub are_blanks : List ℕ → Bool
+are_blanks text = list_all is_blank text
+
+-- whether every byte is a digit; so is each byte of a text that has none
+abbrev pub are_digits : List ℕ → Bool
+are_digits text = list_all is_ascii_digit text
+
+-- the number that digits spell: the sum of each digit times the power of ten of its place
+abbrev pub number_of : List ℕ → ℕ
+number_of [] = 0
+number_of (b ∷ bs) = (b - 48) * 10 ^ length bs + number_of bs
+
+-- the digits of a number, the most significant first, and the one digit 0 for zero
+abbrev pub decimal_digits : ℕ → List ℕ
+decimal_digits n = if n == 0 then 48 ∷ [] else map (λ d. 48 + d) (digits_of 10 n)
+
+-- the digits of a number, with zeros before them where they are fewer than the width
+abbrev pub padded : ℕ → ℕ → List ℕ
+padded width n = replicate (width - length (decimal_digits n)) 48 ++ decimal_digits n

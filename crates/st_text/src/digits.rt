@@ -1,0 +1,27 @@
+//! Numbers that are written by decimal digits.
+
+ghost use Rattle.std.specs.Prelude.{◌≡◌, ◌<◌, ◌≤◌, ◌^◌, length, IsTrue};
+ghost use Rattle.st_text.specs.Bytes as digits;
+ghost use Rattle.st_text.specs.Bytes.{number_of};
+
+
+/// Whether a text has no byte but the digits `0` to `9`. A text of no bytes has none.
+pub fn are_digits(text: &[u8]) -> bool
+    ensures { result ≡ digits.are_digits text.now }
+{
+    text.iter().all(|&byte| byte.is_ascii_digit())
+}
+
+/// The number that at most 18 digits spell; 0 where there is none.
+pub fn read_digits(text: &[u8]) -> u64
+    requires digits { IsTrue (digits.are_digits text.now) }
+    requires few { length text.now ≤ 18 }
+    ensures value { result ≡ number_of text.now }
+    ensures below { result < 10 ^ length text.now }
+{
+    let mut number = 0;
+    for byte in text {
+        number = 10 * number + u64::from(byte.saturating_sub(b'0'));
+    }
+    number
+}

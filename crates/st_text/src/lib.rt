@@ -1,0 +1,10 @@
+//! Text as bytes: blanks, runs of decimal digits and the lines of a file.
+#![tactic(auto)]
+
+mod blanks;
+mod digits;
+mod lines;
+
+pub use blanks::{are_blanks, is_blank, skip_blanks, trim};
+pub use digits::{are_digits, read_digits};
+pub use lines::{split_line, without_cr};

@@ -1,0 +1,36 @@
+//! The lines of a file: a line ends at a line feed or at the end of the file.
+
+ghost use Rattle.std.specs.Prelude.{◌≡◌, ◌<◌, ◌==◌, ◌∷◌, length, position};
+ghost use Rattle.st_text.specs.Lines as lines;
+ghost use Rattle.st_text.specs.Lines.{raw_lines};
+
+/// The first line of the bytes, without its line feed, and the bytes after it.
+///
+/// A carriage return at the end of the line still stands: `without_cr` drops it.
+pub fn split_line(bytes: &[u8]) -> (&[u8], &[u8])
+    requires { 0 < length bytes.now }
+    ensures first { raw_lines bytes.now ≡ result.0.now ∷ raw_lines result.1.now }
+    ensures less { length result.1.now < length bytes.now }
+{
+    match line_end(bytes) {
+        Some(end) => (&bytes[..end], &bytes[end + 1..]),
+        None => (bytes, &bytes[bytes.len()..]),
+    }
+}
+
+/// The line without the carriage return at its end, where it has one there. Only one is dropped.
+pub fn without_cr(line: &[u8]) -> &[u8]
+    ensures { result.now ≡ lines.without_cr line.now }
+{
+    match line {
+        [front @ .., b'\r'] => front,
+        _ => line,
+    }
+}
+
+/// The place of the first line feed.
+fn line_end(bytes: &[u8]) -> Option<usize>
+    ensures { result ≡ position (λ b. b == 10) bytes.now }
+{
+    bytes.iter().position(|&byte| byte == b'\n')
+}
