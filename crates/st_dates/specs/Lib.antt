@@ -1,2 +1,7 @@
+pub mod AtDate
+pub mod AtDateMachine
 pub mod Calendar
+pub mod CalendarMachine
 pub mod Label
+pub mod Names
+pub mod NamesMachine

@@ -1,5 +1,6 @@
 ghost use Rattle.std.specs.Prelude.{◌≡◌, ◌≤◌, ◌↔◌, pos, ◌≤ℤ◌, unsigned_abs, IsSome, IfSome};
 ghost use Rattle.st_dates.specs.Calendar.{day_number, IsCalendarDay};
+ghost use Rattle.st_dates.specs.CalendarMachine.{calendar_day};
 
 use jiff::civil::Date;
 
@@ -9,6 +10,16 @@ const EPOCH: i32 = 10_957;
 /// The days from 2000-01-01 to a date of the Gregorian calendar, or `None` where the calendar has
 /// no such day. The year is from 0 to 9999.
 pub fn day_of(year: i32, month: u32, day: u32) -> Option<i32>
+    requires year_from { pos 0 ≤ℤ year }
+    requires year_to { year ≤ℤ pos 9999 }
+    ensures exact { result ≡ calendar_day (unsigned_abs year) month day }
+    ensures some { IsSome result ↔ IsCalendarDay (unsigned_abs year) month day }
+    ensures value { IfSome result (λ n. n ≡ day_number (unsigned_abs year) month day) }
+{
+    find_day(year, month, day)
+}
+
+fn find_day(year: i32, month: u32, day: u32) -> Option<i32>
     requires year_from { pos 0 ≤ℤ year }
     requires year_to { year ≤ℤ pos 9999 }
     ensures some { IsSome result ↔ IsCalendarDay (unsigned_abs year) month day }

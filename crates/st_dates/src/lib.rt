@@ -4,10 +4,17 @@
 //! 2000-01-01 12:00:00 (J2000), on a calendar whose days all have 86,400 s: the formal count.
 #![tactic(auto)]
 
+mod at_date;
 mod day;
+mod fault;
 mod label;
+mod names;
+mod scan;
 mod system;
 
+pub use at_date::read_at_date;
 pub use day::day_of;
+pub use fault::DateFault;
 pub use label::{FIRST, LAST, Label, formal_of};
+pub use names::{month_name, month_of};
 pub use system::System;

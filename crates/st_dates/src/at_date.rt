@@ -1,0 +1,100 @@
+ghost use Rattle.std.specs.Prelude.{◌≡◌, ◌≤◌, ℤ, Result, IsTrue, IfSome, length};
+ghost use Rattle.st_text.specs.Bytes.{are_digits as all_digits};
+ghost use Rattle.st_dates.specs.AtDate.{ReadsAtDate, midnight};
+ghost use Rattle.st_dates.specs.AtDateMachine.{at_date_of};
+ghost use Rattle.st_dates.specs.AtDateMachine as machine;
+ghost use Rattle.st_dates.specs.declared.fault.DateFault.{DateFault as Fault};
+
+use crate::label::DAY;
+use crate::scan::{after_dash, split_digits, split_name};
+use crate::{DateFault, FIRST, LAST, day_of, month_of};
+use st_text::{are_digits, read_digits};
+
+/// A date as a text names it, whether the calendar has it or not.
+#[derive(Clone, Copy, Debug)]
+pub struct CalendarDate {
+    pub year: u32,
+    pub month: u32,
+    pub day: u32,
+}
+
+/// The instant of a date of a text kernel, whose text stands after an `@`: the formal count of its
+/// midnight, in units of 10^-18 s past 2000-01-01 12:00:00.
+///
+/// The form is `YYYY-MON-D`: four digits, a month's name or its first three letters in any letter
+/// case, and one or two digits.
+pub fn read_at_date(text: &[u8]) -> Result<i128, DateFault>
+    ensures reads { ReadsAtDate text.now result }
+    ensures only { (answer : Result ℤ Fault) → ReadsAtDate text.now answer → result ≡ answer }
+    ensures exact { result ≡ at_date_of text.now }
+{
+    read(text)
+}
+
+fn read(text: &[u8]) -> Result<i128, DateFault>
+    ensures { result ≡ at_date_of text.now }
+{
+    let Some(date) = parts_of(text) else {
+        return Err(DateFault::Form);
+    };
+    match day_of(date.year as i32, date.month, date.day) {
+        Some(day) => ranged(midnight_of(day)),
+        None => Err(DateFault::NoSuchDay),
+    }
+}
+
+/// The year, month and day that a text spells.
+fn parts_of(text: &[u8]) -> Option<CalendarDate>
+    ensures value { result ≡ machine.parts_of text.now }
+    ensures year { IfSome result (λ date. date.year ≤ 9999) }
+{
+    let (year, rest) = split_digits(text);
+    if year.len() != 4 {
+        return None;
+    }
+    month_and_day(read_digits(year) as u32, after_dash(rest)?)
+}
+
+/// The date of a year and the text behind its dash, `MON-D`.
+fn month_and_day(year: u32, text: &[u8]) -> Option<CalendarDate>
+    ensures value { result ≡ machine.month_and_day year (Some text.now) }
+    ensures year { IfSome result (λ date. date.year ≡ year) }
+{
+    let (name, rest) = split_name(text);
+    let month = month_of(name)?;
+    let day = after_dash(rest)?;
+    if !is_short(day) {
+        return None;
+    }
+    Some(CalendarDate {
+        year,
+        month: u32::from(month),
+        day: read_digits(day) as u32,
+    })
+}
+
+/// Whether a text is one or two digits.
+fn is_short(text: &[u8]) -> bool
+    ensures value { result ≡ machine.is_short text.now }
+    ensures digits { IsTrue result → IsTrue (all_digits text.now) }
+    ensures few { IsTrue result → length text.now ≤ 2 }
+{
+    are_digits(text) && 1 <= text.len() && text.len() <= 2
+}
+
+/// The formal count of a day's midnight.
+fn midnight_of(day: i32) -> i128
+    ensures { result ≡ midnight day }
+{
+    day as i128 * DAY - DAY / 2
+}
+
+fn ranged(instant: i128) -> Result<i128, DateFault>
+    ensures { result ≡ machine.ranged instant }
+{
+    if FIRST <= instant && instant <= LAST {
+        Ok(instant)
+    } else {
+        Err(DateFault::OutOfRange)
+    }
+}

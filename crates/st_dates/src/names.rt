@@ -1,0 +1,53 @@
+ghost use Rattle.std.specs.Prelude.{◌≡◌, ℕ, ◌≤◌, ◌<◌, IfSome, Some, length};
+ghost use Rattle.st_dates.specs.Names.{NamesMonth, name_of_month, lowered};
+ghost use Rattle.st_dates.specs.NamesMachine.{is_name, month_named};
+
+/// The month, from 1 to 12, that a text names by its full name or by the first three letters of it,
+/// in any letter case; `None` where the text names no month.
+pub fn month_of(name: &[u8]) -> Option<u8>
+    ensures value { IfSome result (NamesMonth name.now) }
+    ensures only { (m : ℕ) → NamesMonth name.now m → result ≡ Some m }
+    ensures exact { result ≡ month_named name.now }
+{
+    find_month(name)
+}
+
+fn find_month(name: &[u8]) -> Option<u8>
+    ensures { result ≡ month_named name.now }
+{
+    for month in 1..13u8 {
+        if is_month(name, month_name(month).as_bytes()) {
+            return Some(month);
+        }
+    }
+    None
+}
+
+fn is_month(name: &[u8], full: &[u8]) -> bool
+    requires { 3 ≤ length full.now }
+    ensures { result ≡ is_name (lowered name.now) full.now }
+{
+    name.eq_ignore_ascii_case(full) || name.eq_ignore_ascii_case(&full[..3])
+}
+
+/// The full name of a month from 1 to 12, in upper case.
+pub fn month_name(month: u8) -> &'static str
+    requires from { 1 ≤ month }
+    requires to { month ≤ 12 }
+    ensures { result.now ≡ name_of_month month }
+{
+    match month {
+        1 => "JANUARY",
+        2 => "FEBRUARY",
+        3 => "MARCH",
+        4 => "APRIL",
+        5 => "MAY",
+        6 => "JUNE",
+        7 => "JULY",
+        8 => "AUGUST",
+        9 => "SEPTEMBER",
+        10 => "OCTOBER",
+        11 => "NOVEMBER",
+        _ => "DECEMBER",
+    }
+}
