@@ -1,3 +1,4 @@
+mod Examples
 pub mod Numbers
-pub mod Blanks
+pub mod Trimmed
 pub mod Splits

@@ -1,7 +1,7 @@
 -- The lines of a text file. A line ends at a line feed (LF, 10) or at the end of the file, and one
 -- carriage return (CR, 13) at its end is dropped: text files of Unix and of Windows have the same
 -- lines.
-use Rattle.std.specs.Prelude.{ℕ, ◌-◌, Bool, List, [], ◌∷◌, map, length, take, slice_index, ◌==◌, ◌&&◌, nat_lt, if◌then◌else◌}
+use Rattle.std.specs.Prelude.{ℕ, ◌-◌, List, [], ◌∷◌, map, length, take, slice_index, ◌==◌, ◌&&◌, nat_lt, if◌then◌else◌}
 use Rattle.std.specs.List.{slice_split}
 use Rattle.st_text.specs.Bytes.{is_blank, are_blanks}
 

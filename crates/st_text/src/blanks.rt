@@ -52,3 +52,19 @@ fn trim_end(text: &[u8]) -> &[u8]
     }
     rest
 }
+
+#[cfg(test)]
+mod tests {
+    use super::*;
+    use std::test::Fail;
+
+    #[test]
+    fn trims_blanks(rt: HostRuntime) -> Result<(), Fail> {
+        assert!(rt; are_blanks(b" \t"));
+        assert!(rt; !are_blanks(b" \r"));
+        assert_eq!(rt; trim(b"\t one two \t"), b"one two".as_slice());
+        assert_eq!(rt; trim(b" \t "), b"".as_slice());
+        assert_eq!(rt; skip_blanks(b"  a "), b"a ".as_slice());
+        Ok(())
+    }
+}

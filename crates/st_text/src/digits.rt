@@ -4,7 +4,6 @@ ghost use Rattle.std.specs.Prelude.{◌≡◌, ◌<◌, ◌≤◌, ◌^◌, leng
 ghost use Rattle.st_text.specs.Bytes as digits;
 ghost use Rattle.st_text.specs.Bytes.{number_of};
 
-
 /// Whether a text has no byte but the digits `0` to `9`. A text of no bytes has none.
 pub fn are_digits(text: &[u8]) -> bool
     ensures { result ≡ digits.are_digits text.now }
@@ -24,4 +23,22 @@ pub fn read_digits(text: &[u8]) -> u64
         number = 10 * number + u64::from(byte.saturating_sub(b'0'));
     }
     number
+}
+
+#[cfg(test)]
+mod tests {
+    use super::*;
+    use std::test::Fail;
+
+    #[test]
+    fn reads_digits(rt: HostRuntime) -> Result<(), Fail> {
+        assert!(rt; are_digits(b"007"));
+        assert!(rt; are_digits(b""));
+        assert!(rt; !are_digits(b"12a"));
+        assert!(rt; !are_digits(b"-1"));
+        assert_eq!(rt; read_digits(b""), 0);
+        assert_eq!(rt; read_digits(b"007"), 7);
+        assert_eq!(rt; read_digits(b"999999999999999999"), 999_999_999_999_999_999);
+        Ok(())
+    }
 }

@@ -19,6 +19,7 @@ pub fn split_line(bytes: &[u8]) -> (&[u8], &[u8])
 }
 
 /// The line without the carriage return at its end, where it has one there. Only one is dropped.
+#[tactic(auto, unfolding(crate::specs::Lines::without_cr))]
 pub fn without_cr(line: &[u8]) -> &[u8]
     ensures { result.now ≡ lines.without_cr line.now }
 {
@@ -33,4 +34,21 @@ fn line_end(bytes: &[u8]) -> Option<usize>
     ensures { result ≡ position (λ b. b == 10) bytes.now }
 {
     bytes.iter().position(|&byte| byte == b'\n')
+}
+
+#[cfg(test)]
+mod tests {
+    use super::*;
+    use std::test::Fail;
+
+    #[test]
+    fn splits_lines(rt: HostRuntime) -> Result<(), Fail> {
+        let (first, rest) = split_line(b"one\r\ntwo\r");
+        assert_eq!(rt; without_cr(first), b"one".as_slice());
+        let (second, end) = split_line(rest);
+        assert_eq!(rt; without_cr(second), b"two".as_slice());
+        assert!(rt; end.is_empty());
+        assert_eq!(rt; without_cr(b"x\r\r"), b"x\r".as_slice());
+        Ok(())
+    }
 }

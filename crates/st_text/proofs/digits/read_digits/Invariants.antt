@@ -5,5 +5,5 @@ use Rattle.st_text.proofs.digits.read_digits.Given as goal
 abbrev pub invariant-loop-byte : goal.invariant-loop-byte
 invariant-loop-byte l = record {
   value : l.number ≡ number_of (take l.byte-index l.text);
-  below : l.number < 10 ^ l.byte-index
+  below : l.number < 10 ^ l.byte-index;
 }
