@@ -5,7 +5,7 @@ use Rattle.jiff_core.specs.Calendar.{is_leap_year, days_in_year, days_in_month, 
 use Rattle.jiff_core.specs.Calendar.{days_of_months as jiff_months}
 use Rattle.jiff_core.proofs.CalendarLemmas.{days_from_civil-day_count}
 use Rattle.jiff_core.proofs.MarchLemmas.{day_count-early}
-use Rattle.jiff_core.proofs.SignedLemmas.{signed_arith}
+use Rattle.jiff_core.proofs.SignedLemmas.{signed_arith, signed_casts}
 use Rattle.st_dates.specs.Calendar.{is_leap, year_length, month_length, days_before_year, days_of_months, day_number}
 
 -- both leap rules agree
@@ -73,3 +73,7 @@ shifted r h =
 pub number_is : (r year : ℤ) (m d : ℕ) → pos 0 ≤ℤ year → 1 ≤ d → r ≡ days_from_civil year m d → IsEpochDay r → to_z w32 (of_z w32 (to_z w32 (of_z w32 r) -ℤ pos 10957)) ≡ day_number (unsigned_abs year) m d
 number_is r year m d h k e bounds =
     shifted r bounds ∙ ap (λ (z : ℤ). z -ℤ pos 10957) (e ∙ ap (λ (z : ℤ). days_from_civil z m d) (magnitude year h)) ∙ from_1970 (unsigned_abs year) m d k
+
+-- a year below 2^31 is the same in 32 signed bits
+pub year_as_i32 : (year : ℕ) → year ≤ 9999 → unsigned_abs (to_z w32 year) ≡ year
+year_as_i32 year h = omega (arith, signed_casts)

@@ -1,1 +1,6 @@
+pub mod CalendarLaws
+pub mod DateLaws
 pub mod DayLemmas
+pub mod Forms
+pub mod NameLaws
+pub mod Runs

@@ -1,7 +1,6 @@
 -- How a date after an `@` is read: its text is cut from the left into runs of digits and a name.
-use Rattle.std.specs.Prelude.{◌≡◌, ℕ, Bool, not, ◌&&◌, ◌==◌, nat_le, List, [], ◌∷◌, length, take, drop, ℤ, ◌≤ℤ◌, int_le, Option, Some, None, Result, Ok, Err, if◌then◌else◌}
+use Rattle.std.specs.Prelude.{◌≡◌, ℕ, Bool, not, ◌&&◌, ◌==◌, nat_le, List, [], ◌∷◌, length, ℤ, ◌≤ℤ◌, int_le, Option, Some, None, Result, Ok, Err, if◌then◌else◌}
 use Rattle.std.specs.Char.{is_ascii_digit}
-use Rattle.std.specs.List.{prefix_len}
 use Rattle.st_text.specs.Bytes.{are_digits, number_of}
 use Rattle.st_dates.specs.AtDate.{midnight}
 use Rattle.st_dates.specs.CalendarMachine.{calendar_day}
@@ -13,10 +12,12 @@ use Rattle.st_dates.specs.declared.label.TheConstants.{FIRST, LAST}
 
 -- what stands before the first byte that fails the test, and from there on
 unfoldable pub leading : (ℕ → Bool) → List ℕ → List ℕ
-leading p text = take (prefix_len p text) text
+leading p [] = []
+leading p (b ∷ t) = if p b then b ∷ leading p t else []
 
 unfoldable pub behind : (ℕ → Bool) → List ℕ → List ℕ
-behind p text = drop (prefix_len p text) text
+behind p [] = []
+behind p (b ∷ t) = if p b then behind p t else b ∷ t
 
 -- a byte that isn't `-`
 abbrev pub is_no_dash : ℕ → Bool
@@ -58,9 +59,13 @@ abbrev pub counted : Option ℤ → Result ℤ DateFault
 counted None = Err NoSuchDay
 counted (Some n) = ranged (midnight n)
 
+-- the day number of a date that was read, where the calendar has the day
+abbrev pub number_in : CalendarDate → Option ℤ
+number_in d = calendar_day d.year d.month d.day
+
 abbrev pub dated : Option CalendarDate → Result ℤ DateFault
 dated None = Err Form
-dated (Some d) = counted (calendar_day d.year d.month d.day)
+dated (Some d) = counted (number_in d)
 
 -- what reading the text after an `@` answers
 unfoldable pub at_date_of : List ℕ → Result ℤ DateFault

@@ -31,6 +31,7 @@ pub fn read_at_date(text: &[u8]) -> Result<i128, DateFault>
     read(text)
 }
 
+#[tactic(auto, using(crate::proofs::DayLemmas::year_as_i32), unfolding(crate::specs::AtDateMachine::at_date_of))]
 fn read(text: &[u8]) -> Result<i128, DateFault>
     ensures { result ≡ at_date_of text.now }
 {
@@ -44,6 +45,7 @@ fn read(text: &[u8]) -> Result<i128, DateFault>
 }
 
 /// The year, month and day that a text spells.
+#[tactic(auto, unfolding(crate::specs::AtDateMachine::parts_of))]
 fn parts_of(text: &[u8]) -> Option<CalendarDate>
     ensures value { result ≡ machine.parts_of text.now }
     ensures year { IfSome result (λ date. date.year ≤ 9999) }

@@ -1,12 +1,15 @@
-ghost use Rattle.std.specs.Prelude.{◌≡◌, ◌≤◌, length, option_copied, take, drop};
+ghost use Rattle.std.specs.Prelude.{◌≡◌, ◌≤◌, length, IsTrue, option_copied};
 ghost use Rattle.std.specs.Char.{is_ascii_digit};
 ghost use Rattle.std.specs.List.{prefix_len};
+ghost use Rattle.st_text.specs.Bytes.{are_digits};
 ghost use Rattle.st_dates.specs.AtDateMachine as machine;
 ghost use Rattle.st_dates.specs.AtDateMachine.{leading, behind, is_no_dash};
 
 /// The digits with which a text begins, and the rest of it.
+#[tactic(auto, using(crate::proofs::Runs::cut))]
 pub(crate) fn split_digits(text: &[u8]) -> (&[u8], &[u8])
     ensures digits { result.0.now ≡ leading is_ascii_digit text.now }
+    ensures all { IsTrue (are_digits result.0.now) }
     ensures rest { result.1.now ≡ behind is_ascii_digit text.now }
 {
     let end = count_digits(text);
@@ -14,6 +17,7 @@ pub(crate) fn split_digits(text: &[u8]) -> (&[u8], &[u8])
 }
 
 /// What stands before the first `-` of a text, and the rest of it, from the `-` on.
+#[tactic(auto, using(crate::proofs::Runs::cut))]
 pub(crate) fn split_name(text: &[u8]) -> (&[u8], &[u8])
     ensures name { result.0.now ≡ leading is_no_dash text.now }
     ensures rest { result.1.now ≡ behind is_no_dash text.now }
@@ -23,6 +27,7 @@ pub(crate) fn split_name(text: &[u8]) -> (&[u8], &[u8])
 }
 
 /// What stands behind a `-` with which a text begins.
+#[tactic(auto, unfolding(crate::specs::AtDateMachine::after_dash))]
 pub(crate) fn after_dash(text: &[u8]) -> Option<&[u8]>
     ensures { option_copied result ≡ machine.after_dash text.now }
 {
