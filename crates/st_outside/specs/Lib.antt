@@ -1,2 +1,4 @@
+pub mod Calls
 pub mod Causes
 pub mod Entries
+pub mod SafeFiles

@@ -6,10 +6,21 @@
 #![tactic(auto)]
 
 mod bytes;
+mod calls;
 mod faults;
 mod file_map;
+mod file_system;
+mod safe_files;
+mod safe_sink;
+mod safe_source;
+mod standard;
 mod traits;
 
 pub use crate::faults::{Failed, OpenFault, OutOfMemory, SinkFault};
 pub use crate::file_map::FileMap;
+pub use crate::file_system::FileSystem;
+pub use crate::safe_files::SafeFiles;
+pub use crate::safe_sink::SafeSink;
+pub use crate::safe_source::SafeSource;
+pub use crate::standard::{StdIn, StdOut};
 pub use crate::traits::{Files, Sink, Source};
