@@ -1,7 +1,9 @@
 //! Files in memory that never fail.
 
 ghost use Rattle.std.specs.Prelude.{◌≡◌, ◌↔◌, ◌≤◌, true, false, None, Some, IsOk, IsSome, OnOk, OnErr, IsErrOf, is_none};
-ghost use Rattle.st_outside.specs.Causes.{raised_if};
+ghost use Rattle.std.specs.Io.{ReadsAtMost};
+ghost use Rattle.std.specs.Io.KnownBytes.{ReadConsumes};
+ghost use Rattle.st_outside.specs.Causes.{Counts, raised_if};
 ghost use Rattle.st_outside.specs.Entries.{Opens, bytes_of};
 
 use crate::bytes::copy_from;
@@ -26,12 +28,14 @@ struct Reading {
 }
 
 impl SafeFiles {
+    ghost use Rattle.st_outside.specs.SafeFiles.{entries_of, is_open, misses_of, taken_of};
+
     /// These files, of which none is open.
     pub fn new(entries: FileMap) -> SafeFiles
-        ensures map { ⟦<SafeFiles as Files>⟧.map result ≡ Some entries }
-        ensures closed { ⟦<SafeFiles as Files>⟧.opened result ≡ false }
-        ensures misses { ⟦<SafeFiles as Files>⟧.misses result ≡ 0 }
-        ensures taken { ⟦<SafeFiles as Files>⟧.taken result ≡ 0 }
+        ensures map { entries_of result ≡ entries }
+        ensures closed { is_open result ≡ false }
+        ensures misses { misses_of result ≡ 0 }
+        ensures taken { taken_of result ≡ 0 }
     {
         SafeFiles {
             entries,
@@ -85,7 +89,17 @@ impl Files for SafeFiles {
         }
     }
 
-    fn read(&mut self, buf: &mut [u8]) -> Result<usize, Failed> {
+    // The trait's clauses, and that no read fails.
+    fn read(&mut self, buf: &mut [u8]) -> Result<usize, Failed>
+        requires { is_open self.old ≡ true }
+        ensures opened { is_open self.new ≡ true }
+        ensures bound { ReadsAtMost result buf.new }
+        ensures bytes { ReadConsumes (left_of self.old) (left_of self.new) result buf.new }
+        ensures count { Counts (taken_of self.old) (taken_of self.new) result }
+        ensures map { entries_of self.new ≡ entries_of self.old }
+        ensures misses { misses_of self.new ≡ misses_of self.old }
+        ensures safe { IsOk result }
+    {
         let Some(reading) = &mut self.reading else {
             unreachable!()
         };

@@ -1,6 +1,7 @@
 //! A sink in memory that never fails.
 
-ghost use Rattle.std.specs.Prelude.{◌≡◌, [], Some};
+ghost use Rattle.std.specs.Prelude.{◌≡◌, [], Some, length, IfOk, IsOkUnless};
+ghost use Rattle.std.specs.Io.KnownBytes.{WriteAppends};
 
 use crate::faults::SinkFault;
 use crate::traits::Sink;
@@ -13,9 +14,11 @@ pub struct SafeSink {
 }
 
 impl SafeSink {
+    ghost use Rattle.st_outside.specs.SafeSink.{taken_by};
+
     /// A sink that has taken nothing yet and keeps its bytes in memory from `alloc`.
     pub fn new(alloc: Global) -> SafeSink
-        ensures { ⟦<SafeSink as Sink>⟧.taken result ≡ Some [] }
+        ensures { taken_by result ≡ [] }
     {
         SafeSink {
             bytes: Vec::new(alloc),
@@ -24,18 +27,25 @@ impl SafeSink {
 
     /// What was taken so far.
     pub fn bytes(&self) -> &[u8]
-        ensures { ⟦<SafeSink as Sink>⟧.taken self.now ≡ Some result.now }
+        ensures { result.now ≡ taken_by self.now }
     {
         self.bytes.as_slice()
     }
 }
 
 impl Sink for SafeSink {
-    ghost taken = { λ s. Some s.bytes.items };
+    ghost use Rattle.st_outside.specs.SafeSink.{taken_by};
+
+    ghost taken = { λ s. Some (taken_by s) };
 
     ghost faults = { λ _. 0 };
 
-    fn write(&mut self, piece: &[u8]) -> Result<usize, SinkFault> {
+    // The trait's clauses, and that nothing fails but memory.
+    fn write(&mut self, piece: &[u8]) -> Result<usize, SinkFault>
+        ensures whole { IfOk result (λ n. n ≡ length piece.now) }
+        ensures bytes { WriteAppends (Some (taken_by self.old)) (Some (taken_by self.new)) result piece.now }
+        ensures safe { IsOkUnless result SinkFault.OutOfMemory }
+    {
         self.bytes.extend_from_slice(piece)?;
         Ok(piece.len())
     }

@@ -1,6 +1,9 @@
 //! A source in memory that never fails.
 
-ghost use Rattle.std.specs.Prelude.{◌≡◌, Some, drop};
+ghost use Rattle.std.specs.Prelude.{◌≡◌, Some, IsOk};
+ghost use Rattle.std.specs.Io.{ReadsAtMost};
+ghost use Rattle.std.specs.Io.KnownBytes.{ReadConsumes};
+ghost use Rattle.st_outside.specs.Causes.{Counts};
 
 use crate::bytes::copy_from;
 use crate::faults::Failed;
@@ -15,10 +18,12 @@ pub struct SafeSource {
 }
 
 impl SafeSource {
+    ghost use Rattle.st_outside.specs.SafeSource.{rest_of, taken_of};
+
     /// A source of these bytes.
     pub fn new(bytes: Vec<u8>) -> SafeSource
-        ensures left { ⟦<SafeSource as Source>⟧.left result ≡ Some bytes.items }
-        ensures taken { ⟦<SafeSource as Source>⟧.taken result ≡ 0 }
+        ensures left { rest_of result ≡ bytes.items }
+        ensures taken { taken_of result ≡ 0 }
     {
         SafeSource {
             bytes,
@@ -29,13 +34,21 @@ impl SafeSource {
 }
 
 impl Source for SafeSource {
-    ghost left = { λ s. Some (drop s.at s.bytes.items) };
+    ghost use Rattle.st_outside.specs.SafeSource.{rest_of, taken_of};
+
+    ghost left = { λ s. Some (rest_of s) };
 
     ghost faults = { λ _. 0 };
 
-    ghost taken = { λ s. s.taken };
+    ghost taken = { taken_of };
 
-    fn read(&mut self, buf: &mut [u8]) -> Result<usize, Failed> {
+    // The trait's clauses, and that no read fails.
+    fn read(&mut self, buf: &mut [u8]) -> Result<usize, Failed>
+        ensures bound { ReadsAtMost result buf.new }
+        ensures bytes { ReadConsumes (Some (rest_of self.old)) (Some (rest_of self.new)) result buf.new }
+        ensures count { Counts (taken_of self.old) (taken_of self.new) result }
+        ensures safe { IsOk result }
+    {
         let n = copy_from(self.bytes.as_slice(), self.at, buf);
         self.at += n;
         self.taken = self.taken.saturating_add(n as u64);
