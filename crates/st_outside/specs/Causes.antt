@@ -1,6 +1,6 @@
 -- Counts that stand beside an answer and say what caused it. A count is a number of 64 bits that goes up to its
 -- type's last value and stands still there. The definitions are this project's own.
-use Rattle.std.specs.Prelude.{◌≡◌, ℕ, ◌+◌, ◌-◌, ◌^◌, ◌≤◌, min, Result, OnErr, MatchResult}
+use Rattle.std.specs.Prelude.{◌≡◌, ℕ, ◌+◌, ◌-◌, ◌^◌, ◌≤◌, min, Bool, if◌then◌else◌, Result, OnErr, MatchResult}
 
 -- the count has gone up, or stands at its type's last value
 abbrev pub Rose : ℕ → ℕ → Type 0
@@ -18,3 +18,7 @@ pub record HasCause {T E : Type 0} (before now : ℕ) (result : Result T E) : Ty
 -- a read that gives n bytes raises the count by n, up to its type's last value, and an error leaves it as it was
 abbrev pub Counts : {E : Type 0} → ℕ → ℕ → Result ℕ E → Type 0
 Counts before now result = MatchResult result (λ n. now ≡ min (before + n) (2 ^ 64 - 1)) (λ _. now ≡ before)
+
+-- the count after a call that raises it by one exactly where the test holds
+abbrev pub raised_if : Bool → ℕ → ℕ
+raised_if test before = if test then min (before + 1) (2 ^ 64 - 1) else before

@@ -1,2 +1,9 @@
+pub mod Calls
 pub mod Causes
 pub mod Entries
+pub mod MemFiles
+pub mod MemSink
+pub mod MemSource
+pub mod SafeFiles
+pub mod SafeSink
+pub mod SafeSource

@@ -1,0 +1,30 @@
+-- What contracts name of files in memory some of whose calls fail.
+use Rattle.std.specs.Prelude.{ℕ, List, Bool, Option}
+use Rattle.st_outside.specs.Entries.{Entries}
+use Rattle.st_outside.specs.SafeFiles as safe
+use Rattle.st_outside.specs.declared.calls.Calls.{Calls}
+use Rattle.st_outside.specs.declared.mem_files.MemFiles.{MemFiles}
+
+-- the names with their bytes
+abbrev pub entries_of : MemFiles → Entries
+entries_of f = safe.entries_of f.files
+
+-- whether a file is open
+abbrev pub is_open : MemFiles → Bool
+is_open f = safe.is_open f.files
+
+-- the bytes of the open file that are still to be read
+abbrev pub left_of : MemFiles → Option (List ℕ)
+left_of f = safe.left_of f.files
+
+-- how many names weren't found
+abbrev pub misses_of : MemFiles → ℕ
+misses_of f = safe.misses_of f.files
+
+-- how many bytes have been given
+abbrev pub taken_of : MemFiles → ℕ
+taken_of f = safe.taken_of f.files
+
+-- the opens and reads so far, and those that fail
+abbrev pub calls_of : MemFiles → Calls
+calls_of f = f.calls

@@ -1,0 +1,17 @@
+-- What contracts name of a source in memory some of whose reads fail.
+use Rattle.std.specs.Prelude.{ℕ, List}
+use Rattle.st_outside.specs.SafeSource as safe
+use Rattle.st_outside.specs.declared.calls.Calls.{Calls}
+use Rattle.st_outside.specs.declared.mem_source.MemSource.{MemSource}
+
+-- the bytes that are still to be read
+abbrev pub rest_of : MemSource → List ℕ
+rest_of s = safe.rest_of s.source
+
+-- how many bytes have been given
+abbrev pub taken_of : MemSource → ℕ
+taken_of s = safe.taken_of s.source
+
+-- the reads so far, and those that fail
+abbrev pub calls_of : MemSource → Calls
+calls_of s = s.calls

@@ -1,0 +1,24 @@
+-- What contracts name of files in memory that never fail.
+use Rattle.std.specs.Prelude.{ℕ, List, Bool, Option, is_some, option_map, drop}
+use Rattle.st_outside.specs.Entries.{Entries, bytes_at}
+use Rattle.st_outside.specs.declared.safe_files.SafeFiles.{SafeFiles}
+
+-- the names with their bytes
+abbrev pub entries_of : SafeFiles → Entries
+entries_of f = f.entries
+
+-- whether a file is open
+abbrev pub is_open : SafeFiles → Bool
+is_open f = is_some f.reading
+
+-- the bytes of the open file that are still to be read
+abbrev pub left_of : SafeFiles → Option (List ℕ)
+left_of f = option_map (λ r. drop r.at (bytes_at f.entries r.place)) f.reading
+
+-- how many names weren't found
+abbrev pub misses_of : SafeFiles → ℕ
+misses_of f = f.misses
+
+-- how many bytes have been given
+abbrev pub taken_of : SafeFiles → ℕ
+taken_of f = f.taken

@@ -1,0 +1,111 @@
+//! Files in memory some of whose calls fail.
+
+ghost use Rattle.std.specs.Prelude.{◌≡◌, ◌↔◌, ◌≤◌, true, false, None, Some, IsTrue, IsErr, IsErrOf, IsOk, IsSome, OnOk, OnErr};
+ghost use Rattle.std.specs.Io.{ReadsAtMost};
+ghost use Rattle.std.specs.Io.KnownBytes.{ReadConsumes};
+ghost use Rattle.st_outside.specs.Calls.{fails_next, IsFresh, Counted};
+ghost use Rattle.st_outside.specs.Causes.{Rose, Counts};
+ghost use Rattle.st_outside.specs.Entries.{Opens, bytes_of};
+
+use crate::calls::Calls;
+use crate::faults::{Failed, OpenFault};
+use crate::file_map::FileMap;
+use crate::safe_files::SafeFiles;
+use crate::traits::Files;
+
+/// Files in memory. The calls that were listed fail; a name that isn't among the files is missing otherwise.
+#[derive(Debug, Drop)]
+pub struct MemFiles {
+    files: SafeFiles,
+    calls: Calls,
+}
+
+impl MemFiles {
+    ghost use Rattle.st_outside.specs.MemFiles.{entries_of, is_open, misses_of, taken_of, calls_of};
+
+    /// These files, of which none is open. `failing` lists the opens and reads, counted together from 1, that fail.
+    pub fn new(entries: FileMap, failing: Vec<u32>) -> MemFiles
+        ensures map { entries_of result ≡ entries }
+        ensures closed { is_open result ≡ false }
+        ensures misses { misses_of result ≡ 0 }
+        ensures taken { taken_of result ≡ 0 }
+        ensures calls { IsFresh (calls_of result) failing.items }
+    {
+        MemFiles {
+            files: SafeFiles::new(entries),
+            calls: Calls::new(failing),
+        }
+    }
+}
+
+impl Files for MemFiles {
+    ghost use Rattle.st_outside.specs.MemFiles.{entries_of, is_open, left_of, misses_of, taken_of, calls_of};
+
+    ghost map = { λ f. Some (entries_of f) };
+
+    ghost opened = { is_open };
+
+    ghost left = { left_of };
+
+    ghost misses = { misses_of };
+
+    ghost faults = { λ f. (calls_of f).failed };
+
+    ghost taken = { taken_of };
+
+    // The trait's clauses, and that the map and the list of failing calls decide.
+    fn open(&mut self, name: &[u8]) -> Result<(), OpenFault>
+        ensures ok { OnOk result (is_open self.new ≡ true) }
+        ensures bytes { OnOk result (Opens (Some (entries_of self.old)) name.now (left_of self.new)) }
+        ensures err { OnErr result (is_open self.new ≡ false) }
+
+        ensures map { entries_of self.new ≡ entries_of self.old }
+        ensures taken { taken_of self.new ≡ taken_of self.old }
+        ensures misses_later { misses_of self.old ≤ misses_of self.new }
+        ensures faults_later { (calls_of self.old).failed ≤ (calls_of self.new).failed }
+
+        ensures listed { IsErrOf result OpenFault.Failed ↔ IsTrue (fails_next (calls_of self.old)) }
+        ensures not_found { IsErrOf result OpenFault.Missing
+            ↔ ((fails_next (calls_of self.old) ≡ false) × (bytes_of name.now (entries_of self.old) ≡ None)) }
+        ensures found { IsOk result
+            ↔ ((fails_next (calls_of self.old) ≡ false) × IsSome (bytes_of name.now (entries_of self.old))) }
+        ensures missed { IsErrOf result OpenFault.Missing → Rose (misses_of self.old) (misses_of self.new) }
+        ensures counted { Counted (calls_of self.old) (calls_of self.new) }
+    {
+        if self.calls.fails() {
+            self.files.close();
+            return Err(OpenFault::Failed);
+        }
+        self.files.open(name)
+    }
+
+    // The trait's clauses, and that exactly the listed reads fail.
+    fn read(&mut self, buf: &mut [u8]) -> Result<usize, Failed>
+        requires { is_open self.old ≡ true }
+        ensures opened { is_open self.new ≡ true }
+        ensures bound { ReadsAtMost result buf.new }
+        ensures bytes { ReadConsumes (left_of self.old) (left_of self.new) result buf.new }
+        ensures count { Counts (taken_of self.old) (taken_of self.new) result }
+        ensures map { entries_of self.new ≡ entries_of self.old }
+        ensures misses { misses_of self.new ≡ misses_of self.old }
+        ensures listed { IsErr result ↔ IsTrue (fails_next (calls_of self.old)) }
+        ensures counted { Counted (calls_of self.old) (calls_of self.new) }
+        ensures later { (calls_of self.old).failed ≤ (calls_of self.new).failed }
+    {
+        if self.calls.fails() {
+            return Err(Failed);
+        }
+        self.files.read(buf)
+    }
+
+    // The trait's clauses, and that closing isn't one of the counted calls.
+    fn close(&mut self)
+        ensures closed { is_open self.new ≡ false }
+        ensures map { entries_of self.new ≡ entries_of self.old }
+        ensures taken { taken_of self.new ≡ taken_of self.old }
+        ensures misses { misses_of self.new ≡ misses_of self.old }
+        ensures calls { calls_of self.new ≡ calls_of self.old }
+    {
+        self.files.close();
+    }
+}
