@@ -3,7 +3,7 @@
 --     ring     `simp ring` brings a term of sums, products and negatives into one form: it proves each identity of
 --              a commutative ring, over variables of ℤ. `pos a *ℤ pos b` computes to `pos (a * b)`, so state an
 --              identity over plain variables first, and give it `pos ..` afterwards
---     units    the numerals 0 to 3; put before `ring`, as in `simp (units, ring)`
+--     numerals the numerals 0 to 3; put before `ring`, as in `simp (numerals, ring)`
 --     lin      for `omega (arith, lin)`: linear facts, to which a product is an unknown
 use Rattle.std.proofs.Common.{◌≡◌, ℕ, suc, ◌+◌, ◌*◌, ◌≤◌, ◌<◌, ℤ, pos, negsuc, ◌+ℤ◌, ◌*ℤ◌, neg_ℤ, unsigned_abs, ◌≤ℤ◌, ◌<ℤ◌, refl, sym, ap, ◌∙◌, arith, mul-le-mul_right, le_of_mul-le-mul_right}
 use Rattle.std.proofs.lemmas.Int.{ints, by_lt_z}
@@ -62,7 +62,7 @@ three-mul_z a = omega (arith, ints)
 
 pub ruleset ring = (mul_assoc_z, *ℤ_comm, mul_left_comm_z, add-mul_z, mul-add_z, neg-mul_z, mul-neg_z, neg_ℤ-+ℤ, neg_ℤ-neg_ℤ, +ℤ_assoc, +ℤ_comm, add_left_comm_z)
 
-pub ruleset units = (zero-*ℤ, *ℤ-zero, one-mul_z, mul-one_z, +ℤ_idl, +ℤ_idr, two-mul_z, three-mul_z)
+pub ruleset numerals = (zero-*ℤ, *ℤ-zero, one-mul_z, mul-one_z, +ℤ_idl, +ℤ_idr, two-mul_z, three-mul_z)
 
 pub ruleset lin = (same_out, Apart-out, lt_out, le_out, same_in, below_in, at_most_in, sum_is_lem, neg_is, abs_is)
 
