@@ -1,0 +1,5 @@
+pub mod Ring
+pub mod Within
+pub mod Sums
+pub mod Order
+pub mod Scale

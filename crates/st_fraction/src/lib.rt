@@ -1,0 +1,7 @@
+//! Fractions of whole numbers, in contracts and proofs alone.
+//!
+//! This crate has no function. `specs/` has what the crates above cite in their contracts: fractions, their order by
+//! cross products, their sums, products, least and greatest, and the units of 10^-18 in which the programs count.
+//! `proofs/` has the laws: those of a ring and of its order for whole numbers (`Ring`), bounds on a magnitude
+//! (`Within`), finite sums (`Sums`), and the order of fractions (`Order`, `Scale`).
+#![tactic(auto)]
