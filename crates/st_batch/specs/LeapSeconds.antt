@@ -1,0 +1,46 @@
+-- Leap seconds, by the header of NAIF's leapseconds kernels and the Time Required Reading.
+use Rattle.std.specs.Prelude.{◌≡◌, ℕ, ◌+◌, ◌*◌, ◌≤◌, ℤ, pos, negsuc, ◌+ℤ◌, ◌-ℤ◌, ◌*ℤ◌, ◌≤ℤ◌, ◌<ℤ◌, int_le, List, [], ◌∷◌, length, filter}
+use Rattle.st_dates.specs.Label.{formal}
+use Rattle.st_dates.specs.declared.label.Label.{Label}
+use Rattle.st_dates.specs.declared.label.TheConstants.{FIRST, LAST}
+use Rattle.st_batch.specs.declared.leap_seconds.LeapPair.{LeapPair}
+
+-- each pair's date is later than the one before, and its count one more
+abbrev pub Rise : List LeapPair → Type 0
+Rise [] = Unit {0}
+Rise (p ∷ []) = Unit {0}
+Rise (p ∷ q ∷ pairs) = (p.from <ℤ q.from) × (q.count ≡ p.count + 1) × Rise (q ∷ pairs)
+
+-- each count is at most 1,000, and each date lies from 1900-01-01 to 2100-01-01
+abbrev pub AreInRange : List LeapPair → Type 0
+AreInRange [] = Unit {0}
+AreInRange (p ∷ pairs) = (p.count ≤ 1000) × (FIRST ≤ℤ p.from) × (p.from ≤ℤ LAST) × AreInRange pairs
+
+-- the pairs are a table of leap seconds: 1 to 1,000 of them, in their ranges, which rise
+pub record IsLeapTable (pairs : List LeapPair) : Type 0 where
+  pub some : 1 ≤ length pairs
+  pub few : length pairs ≤ 1000
+  pub in_range : AreInRange pairs
+  pub rise : Rise pairs
+
+-- the count of the last pair, or `otherwise` where there is none
+abbrev pub last_count : ℤ → List LeapPair → ℤ
+last_count otherwise [] = otherwise
+last_count otherwise (p ∷ pairs) = last_count (pos p.count) pairs
+
+-- the count before the first pair: the first count less one
+abbrev pub count_before : List LeapPair → ℤ
+count_before [] = pos 0
+count_before (p ∷ pairs) = pos p.count -ℤ pos 1
+
+-- TAI minus UTC on a day, in seconds: the count of the last pair whose date is at most the day
+abbrev pub count_on : List LeapPair → ℤ → ℤ
+count_on pairs midnight = last_count (count_before pairs) (filter (λ p. int_le p.from midnight) pairs)
+
+-- the formal value of the start of the label's day
+abbrev pub midnight_of : Label → ℤ
+midnight_of label = formal (record { day = label.day; of_day = pos 0 })
+
+-- TAI of a UTC label, in units of 10^-18 s: its formal value and the count of its day
+abbrev pub tai_of : List LeapPair → Label → ℤ
+tai_of pairs label = formal label +ℤ (count_on pairs (midnight_of label) *ℤ pos 1_000_000_000_000_000_000)

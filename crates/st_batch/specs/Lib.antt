@@ -1,0 +1,11 @@
+pub mod LeapList
+pub mod LeapListMachine
+pub mod LeapSeconds
+pub mod Load
+pub mod ScanMachine
+pub mod Taken
+pub mod Texts
+pub mod UtcTime
+pub mod UtcTimeMachine
+pub mod Words
+pub mod WordsMachine

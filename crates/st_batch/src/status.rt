@@ -1,0 +1,39 @@
+//! How a run ended.
+
+ghost use Rattle.std.specs.Prelude.{◌≡◌};
+ghost use Rattle.st_batch.specs.Texts.{code_of};
+
+use crate::fault::{LineFault, WordFault};
+
+/// How a run ended. Its number is the program's exit status.
+#[derive(Clone, Copy, Debug, PartialEq, Eq)]
+pub enum Status {
+    /// Every line was answered, and none refused.
+    Done,
+    /// Every line was answered, and at least one refused.
+    SomeRefused,
+    /// The words were refused.
+    BadWords(WordFault),
+    /// The setup was refused.
+    BadSetup(LineFault),
+    /// The output's count of faults rose.
+    WriteFault,
+    /// Memory was refused.
+    OutOfMemory,
+}
+
+impl Status {
+    /// The exit status: 0 to 3 where the whole output was written, and more where it was cut off.
+    pub fn code(&self) -> u8
+        ensures { result ≡ code_of self.now }
+    {
+        match self {
+            Status::Done => 0,
+            Status::SomeRefused => 1,
+            Status::BadWords(_) => 2,
+            Status::BadSetup(_) => 3,
+            Status::WriteFault => 5,
+            Status::OutOfMemory => 6,
+        }
+    }
+}

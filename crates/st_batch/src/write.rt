@@ -1,0 +1,24 @@
+//! Writing to a sink until all is taken.
+
+ghost use Rattle.std.specs.Prelude.{◌≡◌, ◌≤◌, OnOk, OnErr, IsErrOf};
+ghost use Rattle.std.specs.Io.KnownBytes.{Appends};
+ghost use Rattle.st_outside.specs.Causes.{Rose};
+ghost use Rattle.st_batch.specs.Taken.{TakesPrefix};
+
+use st_outside::{Sink, SinkFault};
+
+/// Writes all bytes, in as many pieces as the sink takes. After a fault a beginning of them was taken.
+pub fn write_all<O: Sink>(out: &mut O, bytes: &[u8]) -> Result<(), SinkFault>
+    ensures ok { OnOk result (Appends (O.taken out.old) (O.taken out.new) bytes.now) }
+    ensures err { OnErr result (TakesPrefix (O.taken out.old) (O.taken out.new) bytes.now) }
+    ensures cause { IsErrOf result SinkFault.Failed → Rose (O.faults out.old) (O.faults out.new) }
+{
+    let mut at = 0;
+    while at < bytes.len() {
+        match out.write(&bytes[at..]) {
+            Ok(taken) => at += taken,
+            Err(fault) => return Err(fault),
+        }
+    }
+    Ok(())
+}
