@@ -47,5 +47,8 @@ padded_day = refl
 wide_day : padded 2 365 ≡ codes "365"
 wide_day = refl
 
+nothing : padded 0 0 ≡ []
+nothing = refl
+
 zero_padded : padded 3 0 ≡ codes "000"
 zero_padded = refl

@@ -1,5 +1,5 @@
 -- Bytes of a text: blanks, and the digits that write a number. 48 is the byte of the digit 0.
-use Rattle.std.specs.Prelude.{ℕ, ◌+◌, ◌-◌, ◌*◌, ◌^◌, Bool, List, [], ◌∷◌, ◌++◌, length, map, replicate, ◌==◌, ◌||◌, if◌then◌else◌}
+use Rattle.std.specs.Prelude.{ℕ, ◌+◌, ◌-◌, ◌*◌, ◌^◌, Bool, List, [], ◌∷◌, ◌++◌, length, map, replicate, ◌==◌, ◌||◌}
 use Rattle.std.specs.Char.{is_ascii_digit}
 use Rattle.std.specs.Int.Digits.{digits_of}
 use Rattle.std.specs.List.{list_all}
@@ -21,10 +21,11 @@ abbrev pub number_of : List ℕ → ℕ
 number_of [] = 0
 number_of (b ∷ bs) = (b - 48) * 10 ^ length bs + number_of bs
 
--- the digits of a number, the most significant first, and the one digit 0 for zero
-abbrev pub decimal_digits : ℕ → List ℕ
-decimal_digits n = if n == 0 then 48 ∷ [] else map (λ d. 48 + d) (digits_of 10 n)
-
--- the digits of a number, with zeros before them where they are fewer than the width
+-- the digits of a number, the most significant first, with zeros before them where they are fewer
+-- than the width; std's digits of 0 are none, so 0 is as many zeros as the width says
 abbrev pub padded : ℕ → ℕ → List ℕ
-padded width n = replicate (width - length (decimal_digits n)) 48 ++ decimal_digits n
+padded width n = replicate (width - length (digits_of 10 n)) 48 ++ map (λ d. 48 + d) (digits_of 10 n)
+
+-- the digits of a number, and the one digit 0 for zero
+abbrev pub decimal_digits : ℕ → List ℕ
+decimal_digits n = padded 1 n

@@ -1,0 +1,2 @@
+mod FixedExamples
+pub mod FixedDecimals

@@ -1,0 +1,15 @@
+//! Exact decimals: numbers with a fixed count of decimals, written as text, and the lists of bytes
+//! and names that the crates above exchange.
+#![tactic(auto)]
+
+mod fixed;
+mod kernel_text;
+mod line;
+mod memory;
+mod name_list;
+
+pub use fixed::put_fixed;
+pub use kernel_text::KText;
+pub use line::Line;
+pub use memory::OutOfMemory;
+pub use name_list::NameList;

@@ -1,0 +1,6 @@
+//! Want of memory, the one answer that any call which allocates may give.
+
+use std::alloc::AllocError;
+
+/// Memory was refused. What the call was to change is as before.
+pub type OutOfMemory = AllocError;

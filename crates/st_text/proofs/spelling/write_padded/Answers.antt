@@ -1,0 +1,44 @@
+use Rattle.std.proofs.Common.{arith, ◌<◌, inl, inr}
+use Rattle.st_text.proofs.Padded.{padded_more, room_more, digit_begun, zero_room, begun, digits_at_most}
+use Rattle.st_text.proofs.spelling.write_padded.Goals as goal
+use Rattle.st_text.proofs.spelling.write_padded.Goals.{then-rest-gt0, else-rest-gt0+then-end-at}
+
+pub loop-rest-init : goal.loop-rest-init
+loop-rest-init c = record {
+  written = begun c.args.width c.args.number c.args.end c.args.buffer.now;
+  before = omega arith;
+  room = omega (arith, digits_at_most c.args.number (omega arith));
+}
+
+pub overflow_sub-at : goal.overflow_sub-at
+overflow_sub-at c =
+    elim c.if-rest-gt0.branch [
+      | then-rest-gt0 w ↦ omega (arith, digit_begun c.loop-rest.rest (omega arith))
+      | else-rest-gt0+then-end-at w ↦ omega arith
+    ]
+
+pub loop-rest-smaller : goal.loop-rest-smaller
+loop-rest-smaller c =
+    elim c.if-rest-gt0.branch [
+      | then-rest-gt0 w ↦ omega (arith, digit_begun c.loop-rest.rest (omega arith))
+      | else-rest-gt0+then-end-at w ↦ omega arith
+    ]
+
+pub loop-rest-preserved : goal.loop-rest-preserved
+loop-rest-preserved c =
+    elim c.if-rest-gt0.branch [
+      | then-rest-gt0 w ↦
+          let some : 0 < c.loop-rest.at = omega (arith, digit_begun c.loop-rest.rest (omega arith)) in
+          record {
+            written = padded_more c.args.width c.args.end c.loop-rest.at c.loop-rest.rest c.loop-rest.buffer _ some (omega arith) (omega arith) (inl (omega arith)) c.loop-rest.invariant.written;
+            before = omega arith;
+            room = room_more c.args.end c.loop-rest.at c.loop-rest.rest (omega arith) some (omega arith) (omega arith);
+          }
+      | else-rest-gt0+then-end-at w ↦
+          let some : 0 < c.loop-rest.at = omega arith in
+          record {
+            written = padded_more c.args.width c.args.end c.loop-rest.at c.loop-rest.rest c.loop-rest.buffer _ some (omega arith) (omega arith) (inr (omega arith)) c.loop-rest.invariant.written;
+            before = omega arith;
+            room = zero_room c.args.end c.loop-rest.at c.loop-rest.rest c.args.width (omega arith) some (omega arith) (omega arith) (omega arith);
+          }
+    ]
