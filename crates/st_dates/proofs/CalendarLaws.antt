@@ -1,5 +1,5 @@
 -- The calendar's computation gives a day number exactly where the calendar has the day.
-use Rattle.std.proofs.Common.{◌≡◌, ℕ, ◌≤◌, true, false, ◌&&◌, nat_le, inl, inr, refl, sym, ap, ◌∙◌, arith, ℤ, Option, Some, None, IsSome, IfSome, ◌↔◌}
+use Rattle.std.proofs.Common.{◌≡◌, ℕ, ◌≤◌, true, ◌&&◌, nat_le, inl, inr, refl, sym, ap, ◌∙◌, arith, ℤ, Option, Some, None, IsSome, IfSome, ◌↔◌}
 use Rattle.std.proofs.lemmas.Bool.{cases_Bool}
 use Rattle.std.proofs.lemmas.Bool.Decides.{nat_tests}
 use Rattle.st_dates.specs.Calendar.{IsCalendarDay, day_number, month_length}
@@ -35,5 +35,6 @@ exact (Some n) y m d some value = ap Some value ∙ sym (there y m d (some.0 ref
 pub there_only : (y m d : ℕ) (n : ℤ) → calendar_day y m d ≡ Some n → IsCalendarDay y m d × (n ≡ day_number y m d)
 there_only y m d n e =
     elim (cases_Bool (is_calendar_day y m d)) [
-      inl t ↦ let h = day_is y m d t in (h, let s = there y m d h in cc)
-    | inr f ↦ absurd (let s = not_there y m d (λ h. let t = is_day y m d h in cc) in cc) ]
+      | inl t ↦ let h = day_is y m d t in (h, let s = there y m d h in cc)
+      | inr f ↦ absurd (let s = not_there y m d (λ h. let t = is_day y m d h in cc) in cc)
+    ]

@@ -1,5 +1,5 @@
 -- Reading a date answers what the relation allows, and the relation allows one answer.
-use Rattle.std.proofs.Common.{◌≡◌, ◌⊎◌, true, false, ◌&&◌, inl, inr, refl, sym, ap, ◌∙◌, subst, arith, List, ℕ, ℤ, ◌≤ℤ◌, int_le, Option, Some, None, Result, Ok, Err}
+use Rattle.std.proofs.Common.{◌≡◌, ◌⊎◌, true, ◌&&◌, inl, inr, refl, sym, ap, ◌∙◌, subst, arith, List, ℕ, ℤ, ◌≤ℤ◌, int_le, Option, Some, None, Result, Ok, Err}
 use Rattle.std.proofs.lemmas.Bool.{cases_Bool}
 use Rattle.std.proofs.lemmas.Int.{ints}
 use Rattle.st_dates.specs.AtDate.{ReadsAtDate, Written, Spells, IsDayOf, IsInRange, midnight}
@@ -22,20 +22,23 @@ in_range z h = rw (tested FIRST LAST z h) refl
 out_of_range : (z : ℤ) → (IsInRange z → ⊥) → ranged z ≡ Err OutOfRange
 out_of_range z h =
     elim (cases_Bool (int_le FIRST z && int_le z LAST)) [
-      inl t ↦ absurd (h (passed FIRST LAST z t))
-    | inr f ↦ rw f refl ]
+      | inl t ↦ absurd (h (passed FIRST LAST z t))
+      | inr f ↦ rw f refl
+    ]
 
 in_or_out : (z : ℤ) → IsInRange z ⊎ (IsInRange z → ⊥)
 in_or_out z =
     elim (cases_Bool (int_le FIRST z && int_le z LAST)) [
-      inl t ↦ inl (passed FIRST LAST z t)
-    | inr f ↦ inr (λ h. absurd (let t = tested FIRST LAST z h in cc)) ]
+      | inl t ↦ inl (passed FIRST LAST z t)
+      | inr f ↦ inr (λ h. absurd (let t = tested FIRST LAST z h in cc))
+    ]
 
 by_range : (text : List ℕ) (w : Written) (n : ℤ) → Spells w text → IsDayOf w n → ReadsAtDate text (ranged (midnight n))
 by_range text w n s d =
     elim (in_or_out (midnight n)) [
-      inl h ↦ rw (in_range (midnight n) h) (w, n, s, d, refl, h)
-    | inr h ↦ rw (out_of_range (midnight n) h) (w, n, s, d, h) ]
+      | inl h ↦ rw (in_range (midnight n) h) (w, n, s, d, refl, h)
+      | inr h ↦ rw (out_of_range (midnight n) h) (w, n, s, d, h)
+    ]
 
 by_number : (text : List ℕ) (w : Written) (o : Option ℤ) → Spells w text → o ≡ day_in w → ReadsAtDate text (counted o)
 by_number text w None s e = (w, s, λ n d. absurd (let f = day_found w n d in cc))

@@ -1,20 +1,18 @@
 -- Cutting a text from the left finds the parts of its form, and only those.
-use Rattle.std.proofs.Common.{◌≡◌, ℕ, Bool, true, false, not, ◌&&◌, ◌==◌, ◌≤◌, nat_le, inl, inr, refl, sym, ap, ◌∙◌, arith, List, [], ◌∷◌, ◌++◌, length, ℤ, Option, Some, None, IsTrue}
+use Rattle.std.proofs.Common.{◌≡◌, ℕ, true, false, ◌&&◌, ◌==◌, ◌≤◌, nat_le, inl, inr, refl, sym, ap, ◌∙◌, arith, List, [], ◌∷◌, ◌++◌, length, ℤ, Option, Some, None}
 use Rattle.std.proofs.lemmas.Bool.{cases_Bool}
 use Rattle.std.proofs.lemmas.Bool.Decides.{nat_tests}
 use Rattle.std.specs.Char.{is_ascii_digit}
-use Rattle.std.specs.List.{list_all}
 use Rattle.st_text.specs.Bytes.{are_digits, number_of}
-use Rattle.st_dates.specs.AtDate.{AreDigits, Written, named, spelling, AreParts, Spells, IsDayOf}
+use Rattle.st_dates.specs.AtDate.{AreDigits, Written, named, Spells, IsDayOf}
 use Rattle.st_dates.specs.AtDateMachine.{leading, behind, is_no_dash, after_dash, is_short, with_day, month_and_day, parts_of, number_in}
-use Rattle.st_dates.specs.Calendar.{IsCalendarDay, day_number}
 use Rattle.st_dates.specs.CalendarMachine.{calendar_day}
 use Rattle.st_dates.specs.Names.{NamesMonth}
 use Rattle.st_dates.specs.NamesMachine.{month_named}
 use Rattle.st_dates.specs.declared.at_date.CalendarDate.{CalendarDate}
 use Rattle.st_dates.proofs.CalendarLaws.{there, there_only}
 use Rattle.st_dates.proofs.NameLaws.{only, names, no_dash}
-use Rattle.st_dates.proofs.Runs.{Stops, leading-at, behind-at, joined, leading_passes, head_passes, tail_passes}
+use Rattle.st_dates.proofs.Runs.{leading-at, behind-at, joined, leading_passes, head_passes, tail_passes}
 
 dash : (t : List ℕ) → after_dash (45 ∷ t) ≡ Some t
 unfolding after_dash
@@ -37,8 +35,9 @@ dashed : (t u : List ℕ) → after_dash t ≡ Some u → t ≡ 45 ∷ u
 dashed [] u e = absurd (let n = no_dash_end in cc)
 dashed (b ∷ t) u e =
     elim (cases_Bool (b == 45)) [
-      inl h ↦ let s = dash_byte b t h in let same : b ≡ 45 = grind (arith, nat_tests) in let rest : t ≡ u = cc in cc
-    | inr h ↦ absurd (let s = no_dash_byte b t h in cc) ]
+      | inl h ↦ let s = dash_byte b t h in let same : b ≡ 45 = grind (arith, nat_tests) in let rest : t ≡ u = cc in cc
+      | inr h ↦ absurd (let s = no_dash_byte b t h in cc)
+    ]
 
 length_test : (n : ℕ) → 1 ≤ n → n ≤ 2 → (nat_le 1 n && nat_le n 2) ≡ true
 length_test n h k = grind (arith, nat_tests)
@@ -109,7 +108,7 @@ spelled text (named year name day) h =
     record {
       date = named_date year m day;
       read = ap parts_of h.whole ∙ named_read year name day m h.parts.0 n h.parts.2;
-      same = rw (only name m n) refl
+      same = rw (only name m n) refl;
     }
 
 record Dated (y : ℕ) (o : Option ℕ) (t : Option (List ℕ)) (d : CalendarDate) : Type 0 where
@@ -128,8 +127,9 @@ dated y None t d e = absurd (cc)
 dated y (Some m) None d e = absurd (cc)
 dated y (Some m) (Some text) d e =
     elim (cases_Bool (is_short text)) [
-      inl h ↦ record { month = m; day = text; month_is = refl; day_is = refl; digits = h; date_is = some_same d _ (sym (rw h at e)) }
-    | inr h ↦ absurd (let no = rw h at e in cc) ]
+      | inl h ↦ record { month = m; day = text; month_is = refl; day_is = refl; digits = h; date_is = some_same d _ (sym (rw h at e)) }
+      | inr h ↦ absurd (let no = rw h at e in cc)
+    ]
 
 record Monthly (y : ℕ) (o : Option (List ℕ)) (d : CalendarDate) : Type 0 where
   text : List ℕ
@@ -159,12 +159,13 @@ named_text text d four h =
     record {
       written = named year name day;
       spells = record { parts = (digits, (h.dated.month, names name h.dated.month h.dated.month_is), shortly day h.dated.digits); whole = whole };
-      same = ap number_in h.dated.date_is ∙ rw h.dated.month_is refl
+      same = ap number_in h.dated.date_is ∙ rw h.dated.month_is refl;
     }
 
 pub read_is_spelled : (text : List ℕ) (d : CalendarDate) → parts_of text ≡ Some d → Read text d
 unfolding parts_of
 read_is_spelled text d e =
     elim (cases_Bool (length (leading is_ascii_digit text) == 4)) [
-      inl h ↦ named_text text d (is_four (length (leading is_ascii_digit text)) h) (monthly (number_of (leading is_ascii_digit text)) (after_dash (behind is_ascii_digit text)) d (rw h at e))
-    | inr h ↦ absurd (let no = rw h at e in cc) ]
+      | inl h ↦ named_text text d (is_four (length (leading is_ascii_digit text)) h) (monthly (number_of (leading is_ascii_digit text)) (after_dash (behind is_ascii_digit text)) d (rw h at e))
+      | inr h ↦ absurd (let no = rw h at e in cc)
+    ]

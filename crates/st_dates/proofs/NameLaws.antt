@@ -62,14 +62,16 @@ pub found : (n : ℕ) (text : List ℕ) (names : List (List ℕ)) (m : ℕ) → 
 found n text [] m e = absurd (let no = none_left n text in cc)
 found n text (full ∷ names) m e =
     elim (cases_Bool (is_name text full)) [
-      inl t ↦ let s = rw t at (step n text full names) in let same : n ≡ m = cc in at_once n text full names m same t
-    | inr f ↦ let s = rw f at (step n text full names) in later n text full names m (found (suc n) text names m (sym s ∙ e)) ]
+      | inl t ↦ let s = rw t at (step n text full names) in let same : n ≡ m = cc in at_once n text full names m same t
+      | inr f ↦ let s = rw f at (step n text full names) in later n text full names m (found (suc n) text names m (sym s ∙ e))
+    ]
 
 letters : (text full : List ℕ) → is_name (lowered text) full ≡ true → AreSameLetters text full ⊎ AreSameLetters text (take 3 full)
 letters text full h =
     elim (or_cases (bytes_eq (lowered text) (lowered full)) (bytes_eq (lowered text) (lowered (take 3 full))) h) [
-      inl t ↦ inl ((bytes_eq-Decides (lowered text) (lowered full)).0 t)
-    | inr t ↦ inr ((bytes_eq-Decides (lowered text) (lowered (take 3 full))).0 t) ]
+      | inl t ↦ inl ((bytes_eq-Decides (lowered text) (lowered full)).0 t)
+      | inr t ↦ inr ((bytes_eq-Decides (lowered text) (lowered (take 3 full))).0 t)
+    ]
 
 names_it : (text : List ℕ) (m : ℕ) → Found 1 m (lowered text) month_names → NamesMonth text m
 names_it text m h =
@@ -143,5 +145,6 @@ unfolding HasNoDash
 no_dash text m h =
     let none = no_dash_in m h.month_from h.month_to in
     sym (lower_dashes text) ∙ elim h.letters [
-      inl e ↦ rw e none.0
-    | inr e ↦ rw e none.1 ]
+      | inl e ↦ rw e none.0
+      | inr e ↦ rw e none.1
+    ]

@@ -1,5 +1,5 @@
 -- A text is cut where a test first fails: in one way only.
-use Rattle.std.proofs.Common.{◌≡◌, ℕ, Bool, true, false, cond, ◌+◌, ◌-◌, ◌&&◌, inl, inr, refl, sym, ap, ◌∙◌, List, [], ◌∷◌, ◌++◌, length, take, drop, one-add}
+use Rattle.std.proofs.Common.{◌≡◌, ℕ, Bool, true, false, ◌-◌, ◌&&◌, inl, inr, refl, ap, ◌∙◌, List, [], ◌∷◌, ◌++◌, length, take, drop, one-add}
 use Rattle.std.proofs.lemmas.Bool.{cases_Bool}
 use Rattle.std.proofs.lemmas.List.{take_rest}
 use Rattle.std.specs.List.{list_all, prefix_len}
@@ -36,24 +36,27 @@ unfolding leading behind
 joined p [] = refl
 joined p (b ∷ t) =
     elim (cases_Bool (p b)) [
-      inl h ↦ rw h (same_cons b (leading p t ++ behind p t) t (joined p t))
-    | inr h ↦ rw h refl ]
+      | inl h ↦ rw h (same_cons b (leading p t ++ behind p t) t (joined p t))
+      | inr h ↦ rw h refl
+    ]
 
 pub leading_passes : (p : ℕ → Bool) (t : List ℕ) → list_all p (leading p t) ≡ true
 unfolding leading
 leading_passes p [] = refl
 leading_passes p (b ∷ t) =
     elim (cases_Bool (p b)) [
-      inl h ↦ rw (h, h) (leading_passes p t)
-    | inr h ↦ rw h refl ]
+      | inl h ↦ rw (h, h) (leading_passes p t)
+      | inr h ↦ rw h refl
+    ]
 
 pub behind_stops : (p : ℕ → Bool) (t : List ℕ) → Stops p (behind p t)
 unfolding behind
 behind_stops p [] = tt
 behind_stops p (b ∷ t) =
     elim (cases_Bool (p b)) [
-      inl h ↦ rw h (behind_stops p t)
-    | inr h ↦ rw h h ]
+      | inl h ↦ rw h (behind_stops p t)
+      | inr h ↦ rw h h
+    ]
 
 pub head_passes : (x y : Bool) → (x && y) ≡ true → x ≡ true
 head_passes true y h = refl
@@ -82,16 +85,18 @@ unfolding leading
 leading-take p [] = refl
 leading-take p (b ∷ t) =
     elim (cases_Bool (p b)) [
-      inl h ↦ rw (h, one-add) (same_cons b (take (prefix_len p t) t) (leading p t) (leading-take p t))
-    | inr h ↦ rw h refl ]
+      | inl h ↦ rw (h, one-add) (same_cons b (take (prefix_len p t) t) (leading p t) (leading-take p t))
+      | inr h ↦ rw h refl
+    ]
 
 pub behind-drop : (p : ℕ → Bool) (t : List ℕ) → drop (prefix_len p t) t ≡ behind p t
 unfolding behind
 behind-drop p [] = refl
 behind-drop p (b ∷ t) =
     elim (cases_Bool (p b)) [
-      inl h ↦ rw (h, one-add) (behind-drop p t)
-    | inr h ↦ rw h refl ]
+      | inl h ↦ rw (h, one-add) (behind-drop p t)
+      | inr h ↦ rw h refl
+    ]
 
 -- what the code keeps behind a cut
 pub rest : (t : List ℕ) (n : ℕ) → take (length t - n) (drop n t) ≡ drop n t

@@ -100,3 +100,49 @@ fn ranged(instant: i128) -> Result<i128, DateFault>
         Err(DateFault::OutOfRange)
     }
 }
+
+#[cfg(test)]
+mod tests {
+    use super::*;
+
+    /// The seconds past J2000 as units.
+    fn seconds(count: i64) -> Result<i128, DateFault> {
+        Ok(i128::from(count) * 1_000_000_000_000_000_000)
+    }
+
+    #[test]
+    fn reads_dates(rt: HostRuntime) {
+        let form = Err(DateFault::Form);
+        let no_day = Err(DateFault::NoSuchDay);
+        let out_of_range = Err(DateFault::OutOfRange);
+        let table: [(&[u8], Result<i128, DateFault>); 24] = [
+            (b"1972-JAN-1", seconds(-883_656_000)),
+            (b"1972-JUL-1", seconds(-867_931_200)),
+            (b"2017-JAN-1", seconds(536_500_800)),
+            (b"2017-jan-01", seconds(536_500_800)),
+            (b"2017-January-1", seconds(536_500_800)),
+            (b"2000-FEB-29", seconds(5_054_400)),
+            (b"1900-JAN-1", seconds(-3_155_716_800)),
+            (b"2100-JAN-1", seconds(3_155_716_800)),
+            (b"2100-JAN-2", out_of_range),
+            (b"1899-DEC-31", out_of_range),
+            (b"0000-FEB-29", out_of_range),
+            (b"0000-FEB-30", no_day),
+            (b"1900-FEB-29", no_day),
+            (b"2001-APR-31", no_day),
+            (b"2001-APR-0", no_day),
+            (b"2001-APR-00", no_day),
+            (b"", form),
+            (b"2001", form),
+            (b"2001-APR", form),
+            (b"2001-APR-", form),
+            (b"2001-APR-001", form),
+            (b"2001-APRI-1", form),
+            (b"201-APR-1", form),
+            (b" 2001-APR-1", form),
+        ];
+        for (text, answer) in table {
+            assert_eq!(rt; read_at_date(text), answer);
+        }
+    }
+}

@@ -40,3 +40,30 @@ fn number_of(date: Date) -> i32
 {
     date.to_plain().to_unix_epoch_day() - EPOCH
 }
+
+#[cfg(test)]
+mod tests {
+    use super::*;
+
+    #[test]
+    fn numbers_days(rt: HostRuntime) {
+        let table = [
+            (2000, 1, 1, Some(0)),
+            (1999, 12, 31, Some(-1)),
+            (2000, 2, 29, Some(59)),
+            (2017, 1, 1, Some(6210)),
+            (1900, 1, 1, Some(-36_524)),
+            (2100, 1, 1, Some(36_525)),
+            (0, 1, 1, Some(-730_485)),
+            (9999, 12, 31, Some(2_921_939)),
+            (1900, 2, 29, None),
+            (2001, 13, 1, None),
+            (2001, 0, 1, None),
+            (2001, 4, 31, None),
+            (2001, 4, 4_294_967_295, None),
+        ];
+        for (year, month, day, number) in table {
+            assert_eq!(rt; day_of(year, month, day), number);
+        }
+    }
+}

@@ -30,3 +30,42 @@ pub fn formal_of(label: Label) -> i128
 {
     label.day as i128 * DAY - DAY / 2 + label.of_day
 }
+
+#[cfg(test)]
+mod tests {
+    use super::*;
+
+    #[test]
+    fn counts_labels(rt: HostRuntime) {
+        let noon = 43_200 * SECOND;
+        assert_eq!(rt;
+            formal_of(Label {
+                day: 0,
+                of_day: noon
+            }),
+            0
+        );
+        assert_eq!(rt; formal_of(Label { day: 1, of_day: 0 }), noon);
+        assert_eq!(rt;
+            formal_of(Label {
+                day: -36_524,
+                of_day: 0
+            }),
+            FIRST
+        );
+        assert_eq!(rt;
+            formal_of(Label {
+                day: 36_525,
+                of_day: 0
+            }),
+            LAST
+        );
+        assert_eq!(rt;
+            formal_of(Label {
+                day: 0,
+                of_day: 86_400 * SECOND
+            }),
+            noon
+        );
+    }
+}

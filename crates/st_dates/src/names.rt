@@ -51,3 +51,27 @@ pub fn month_name(month: u8) -> &'static str
         _ => "DECEMBER",
     }
 }
+
+#[cfg(test)]
+mod tests {
+    use super::*;
+
+    #[test]
+    fn names_months(rt: HostRuntime) {
+        assert_eq!(rt; month_name(1), "JANUARY");
+        assert_eq!(rt; month_name(12), "DECEMBER");
+        let table: [(&[u8], Option<u8>); 8] = [
+            (b"JANUARY", Some(1)),
+            (b"may", Some(5)),
+            (b"Jul", Some(7)),
+            (b"deCEMber", Some(12)),
+            (b"SEPT", None),
+            (b"JA", None),
+            (b"JANUARYS", None),
+            (b"", None),
+        ];
+        for (name, month) in table {
+            assert_eq!(rt; month_of(name), month);
+        }
+    }
+}

@@ -1,4 +1,4 @@
-use Rattle.std.proofs.Common.{◌≡◌, ◌≤◌, ◌∙◌, arith, lit≤}
+use Rattle.std.proofs.Common.{◌∙◌, arith}
 use Rattle.st_dates.proofs.NameLaws.{hit, miss, last}
 use Rattle.st_dates.proofs.names.find_month.Goals as goal
 
