@@ -40,8 +40,8 @@ flipped a b h = other_name b a (λ e. differ a b h (sym e))
 pub bytes_of-first : (name : List ℕ) (es : Entries) → position_or_len (has_name name) es < length es → bytes_of name es ≡ Some (bytes_at es (position_or_len (has_name name) es))
 bytes_of-first name es lt =
     found_at (bytes_of name) (has_name name) (λ e. Some e.1) None refl (λ _ _. refl) es _ ([], []) lt
-        (λ k h. fails_before_first (has_name name) es k ([], []) h)
-        (passes_at_first (has_name name) es ([], []) lt)
+    (λ k h. fails_before_first (has_name name) es k ([], []) h)
+    (passes_at_first (has_name name) es ([], []) lt)
 
 pub bytes_of-none : (name : List ℕ) (es : Entries) → length es ≤ position_or_len (has_name name) es → bytes_of name es ≡ None
 bytes_of-none name [] h = refl
@@ -85,11 +85,11 @@ bytes_of-set_first name es e' same lt =
     let i = position_or_len (has_name name) es in
     let here : get_or (set es i e') i ([], []) ≡ e' = get_or-set_same es i e' ([], []) lt in
     let before : (k : ℕ) → k < i → has_name name (get_or (set es i e') k ([], [])) ≡ false =
-        λ k h. let ne : k ≢ i = omega arith in rw (get_or-set_other es i k e' ([], []) ne) (fails_before_first (has_name name) es k ([], []) h) in
+    λ k h. let ne : k ≢ i = omega arith in rw (get_or-set_other es i k e' ([], []) ne) (fails_before_first (has_name name) es k ([], []) h) in
     let passes : has_name name (get_or (set es i e') i ([], [])) ≡ true = rw here (same_name _ _ same) in
     let room : i < length (set es i e') = rw length-set lt in
     found_at (bytes_of name) (has_name name) (λ e. Some e.1) None refl (λ _ _. refl) (set es i e') i ([], []) room before passes
-        ∙ ap (λ e. Some e.1) here
+    ∙ ap (λ e. Some e.1) here
 
 -- no name comes in
 absent_set : (name : List ℕ) (es : Entries) (i : ℕ) (e' : Entry) → (get_or es i e').0 ≡ e'.0 → bytes_of name es ≡ None → bytes_of name (set es i e') ≡ None
@@ -117,9 +117,10 @@ bytes_of-push_other other (e ∷ es) e' ne = ap (λ rest. cond (bytes_eq e.0 oth
 
 pub HasDistinctNames-push : (es : Entries) (e' : Entry) → bytes_of e'.0 es ≡ None → HasDistinctNames es → HasDistinctNames (es ++ e' ∷ [])
 HasDistinctNames-push [] e' none distinct = (refl, tt)
-HasDistinctNames-push (e ∷ es) e' none distinct =
-    (bytes_of-push_other e.0 es e' (differ _ _ (flipped e.0 e'.0 (absent_first e'.0 e es none))) ∙ distinct.0,
-     HasDistinctNames-push es e' (absent_rest e'.0 e es none) distinct.1)
+HasDistinctNames-push (e ∷ es) e' none distinct = (
+  bytes_of-push_other e.0 es e' (differ _ _ (flipped e.0 e'.0 (absent_first e'.0 e es none))) ∙ distinct.0,
+  HasDistinctNames-push es e' (absent_rest e'.0 e es none) distinct.1,
+)
 
 -- ---- what a place found, or not found, says
 

@@ -1,5 +1,5 @@
 -- Calls of a form in memory: which of them fail, and how many there were. The definitions are this project's own.
-use Rattle.std.specs.Prelude.{◌≡◌, ◌==◌, ℕ, ◌+◌, ◌-◌, ◌^◌, min, List, [], Bool}
+use Rattle.std.specs.Prelude.{◌≡◌, ◌==◌, ℕ, ◌+◌, ◌-◌, ◌^◌, min, List, Bool}
 use Rattle.std.specs.List.{list_any}
 use Rattle.st_outside.specs.Causes.{raised_if}
 use Rattle.st_outside.specs.declared.calls.Calls.{Calls}

@@ -65,9 +65,7 @@ impl FileMap {
 fn find_place(entries: &[(Bytes, Bytes)], name: &[u8]) -> Option<usize>
     ensures { result ≡ position (λ entry. bytes_eq entry.0 name.now) entries.now }
 {
-    entries
-        .iter()
-        .position(|entry| entry.0.as_slice() == name)
+    entries.iter().position(|entry| entry.0.as_slice() == name)
 }
 
 fn entry_bytes(entries: &[(Bytes, Bytes)], place: usize) -> &[u8]
@@ -79,7 +77,11 @@ fn entry_bytes(entries: &[(Bytes, Bytes)], place: usize) -> &[u8]
     }
 }
 
-fn put_entry(entries: &mut Vec<(Bytes, Bytes)>, name: &[u8], bytes: Vec<u8>) -> Result<(), OutOfMemory>
+fn put_entry(
+    entries: &mut Vec<(Bytes, Bytes)>,
+    name: &[u8],
+    bytes: Vec<u8>,
+) -> Result<(), OutOfMemory>
     ensures ok { OnOk result (Puts entries.old.items name.now bytes.items entries.new.items) }
     ensures err { OnErr result (entries.new.items ≡ entries.old.items) }
     ensures distinct { HasDistinctNames entries.old.items → HasDistinctNames entries.new.items }

@@ -17,6 +17,8 @@ mod safe_files;
 mod safe_sink;
 mod safe_source;
 mod standard;
+#[cfg(test)]
+mod tests;
 mod traits;
 
 pub use crate::faults::{Failed, OpenFault, OutOfMemory, SinkFault};

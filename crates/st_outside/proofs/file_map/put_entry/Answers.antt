@@ -1,4 +1,4 @@
-use Rattle.std.proofs.Common.{◌≡◌, ◌∷◌, [], ◌++◌, Some, None, refl, sym, position}
+use Rattle.std.proofs.Common.{◌≡◌, ◌∷◌, [], ◌++◌, Some, None, position}
 use Rattle.st_outside.proofs.EntryLemmas.{has_name, Puts-found, Puts-absent, HasDistinctNames-found, HasDistinctNames-absent}
 use Rattle.st_outside.proofs.file_map.put_entry.Goals as goal
 
