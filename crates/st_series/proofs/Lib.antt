@@ -5,3 +5,6 @@ pub mod Waves
 pub mod Tail
 pub mod Addition
 pub mod PartialSums
+pub mod Vanish
+pub mod Alternating
+pub mod Sandwich

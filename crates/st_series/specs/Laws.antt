@@ -29,6 +29,16 @@ abbrev pub CosineSandwich : Type 0
 CosineSandwich = (x : Fraction) (n m : ℕ) → IsFraction x → IsLongEnough x n → n ≤ m
     → (cosine_lower x n ≤ᶠ cosine_lower x m) × (cosine_upper x m ≤ᶠ cosine_upper x n)
 
+-- A number that is long enough stays so, and no long enough lower end is above a long enough upper end.
+abbrev pub LongEnoughStays : Type 0
+LongEnoughStays = (x : Fraction) (n m : ℕ) → IsLongEnough x n → n ≤ m → IsLongEnough x m
+
+abbrev pub SineInOrder : Type 0
+SineInOrder = (x : Fraction) (n m : ℕ) → IsFraction x → IsLongEnough x n → IsLongEnough x m → sine_lower x n ≤ᶠ sine_upper x m
+
+abbrev pub CosineInOrder : Type 0
+CosineInOrder = (x : Fraction) (n m : ℕ) → IsFraction x → IsLongEnough x n → IsLongEnough x m → cosine_lower x n ≤ᶠ cosine_upper x m
+
 -- Vanishing: the terms of the series fall below every fraction above 0.
 abbrev pub Vanishing : Type 0
 Vanishing = (z e : Fraction) → IsFraction z → IsFraction e → whole (pos 0) <ᶠ e

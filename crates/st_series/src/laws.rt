@@ -1,6 +1,6 @@
 //! The laws of the partial sums. Each function does nothing: its contract is the law, for all fractions and all n.
 
-ghost use Rattle.st_series.specs.Laws.{SineOverOne, CosineOverOne, AtZero, AtOne, SineAddition, CosineAddition};
+ghost use Rattle.st_series.specs.Laws.{SineOverOne, CosineOverOne, AtZero, AtOne, SineSandwich, CosineSandwich, LongEnoughStays, SineInOrder, CosineInOrder, Vanishing, SineAddition, CosineAddition};
 
 /// What the partial sums are: one numerator over one denominator, and their values at 0 and at 1.
 pub fn partial_sums()
@@ -8,6 +8,17 @@ pub fn partial_sums()
     ensures cosine_over_one { CosineOverOne }
     ensures at_zero { AtZero }
     ensures at_one { AtOne }
+{}
+
+/// Sandwich: from a long enough n on, `L_n(x)` rises and `U_n(x)` falls, and no `L` is above a `U`. Vanishing: the terms
+/// of the series fall below every fraction above 0, so the ends come as near to each other as one likes.
+pub fn sandwich()
+    ensures sine { SineSandwich }
+    ensures cosine { CosineSandwich }
+    ensures stays { LongEnoughStays }
+    ensures sine_in_order { SineInOrder }
+    ensures cosine_in_order { CosineInOrder }
+    ensures vanishing { Vanishing }
 {}
 
 /// The addition laws: `S_n(x + y)` and `S_n(x) C_n(y) + C_n(x) S_n(y)` differ by at most twice the first term that they
