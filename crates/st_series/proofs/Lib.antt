@@ -8,3 +8,6 @@ pub mod PartialSums
 pub mod Vanish
 pub mod Alternating
 pub mod Sandwich
+pub mod Parity
+pub mod BoundByOne
+pub mod Lipschitz

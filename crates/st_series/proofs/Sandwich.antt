@@ -37,7 +37,7 @@ two_steps m p q k f s d l =
         l ∙ ap (λ z. q *ℤ a *ℤ z) e2 ∙ c ∙ ap (λ z. p *ℤ z) e1 ∙ r
 
 -- from degree 2n on the terms two degrees apart shrink
-terms_shrink : (x : Fraction) (n k d : ℕ) → 0 < x.den → IsLongEnough x n → 2 * n ≤ d → suc d < k
+pub terms_shrink : (x : Fraction) (n k d : ℕ) → 0 < x.den → IsLongEnough x n → 2 * n ≤ d → suc d < k
     → Shrinks (scaled_term x.num x.den k d) (scaled_term x.num x.den k (suc (suc d)))
 terms_shrink x n k d some long l m =
     let q = x.den in
@@ -64,9 +64,9 @@ cosine_closes x n k i some long l b =
     let s = turned_shrinks (suc i) _ _ (terms_shrink x n k (2 * suc i) some long (omega arith) (omega arith)) in
     closes (cosine_of f i) (cosine_of f (suc i)) (cosine_of f (suc (suc i))) (turned (suc i) (f (2 * suc i))) (turned (suc i) (f (2 * suc (suc i)))) refl refl (rw e s)
 
-record Nested (s : ℕ → ℤ) (n m : ℕ) : Type 0 where
-  rises : lesser (s n) (s (suc n)) ≤ℤ lesser (s m) (s (suc m))
-  falls : greater (s m) (s (suc m)) ≤ℤ greater (s n) (s (suc n))
+pub record Nested (s : ℕ → ℤ) (n m : ℕ) : Type 0 where
+  pub rises : lesser (s n) (s (suc n)) ≤ℤ lesser (s m) (s (suc m))
+  pub falls : greater (s m) (s (suc m)) ≤ℤ greater (s n) (s (suc n))
 
 chain : (s : ℕ → ℤ) (n k : ℕ) → ((i : ℕ) → n ≤ i → 2 * i + 5 ≤ k → Closes (s i) (s (suc i)) (s (suc (suc i)))) → (j : ℕ) → 2 * (j + n) + 3 ≤ k → Nested s n (j + n)
 chain s n k h zero l = let e : 0 + n ≡ n = omega arith in rw e (record { rises = omega (arith, lin); falls = omega (arith, lin) })
@@ -75,6 +75,11 @@ chain s n k h (suc j) l =
     let ih = chain s n k h j (omega arith) in
     let c = h (j + n) (omega arith) (omega arith) in
     rw e (record { rises = omega (arith, lin, ih.rises, c.rises); falls = omega (arith, lin, ih.falls, c.falls) })
+
+pub sine_chain : (x : Fraction) (n k m : ℕ) → 0 < x.den → IsLongEnough x n → n ≤ m → 2 * m + 3 ≤ k → Nested (sine_of (scaled_term x.num x.den k)) n m
+sine_chain x n k m some long l b =
+    let e : (m - n) + n ≡ m = omega arith in
+    rw e at (chain (sine_of (scaled_term x.num x.den k)) n k (λ i a c. sine_closes x n k i some long a c) (m - n) (omega arith))
 
 pub sine_lower_at : (x : Fraction) (k n : ℕ) → 0 < x.den → 2 * n + 3 ≤ k
     → IsAt (rest x.den 0 k) (sine_lower x n) (lesser (sine_of (scaled_term x.num x.den k) n) (sine_of (scaled_term x.num x.den k) (suc n)))

@@ -1,6 +1,6 @@
 //! The laws of the partial sums. Each function does nothing: its contract is the law, for all fractions and all n.
 
-ghost use Rattle.st_series.specs.Laws.{SineOverOne, CosineOverOne, AtZero, AtOne, SineSandwich, CosineSandwich, LongEnoughStays, SineInOrder, CosineInOrder, Vanishing, SineAddition, CosineAddition};
+ghost use Rattle.st_series.specs.Laws.{SineOverOne, CosineOverOne, AtZero, AtOne, SineSandwich, CosineSandwich, LongEnoughStays, SineInOrder, CosineInOrder, Vanishing, SineAddition, CosineAddition, SineBound, CosineBound, SineLipschitz, CosineLipschitz};
 
 /// What the partial sums are: one numerator over one denominator, and their values at 0 and at 1.
 pub fn partial_sums()
@@ -26,4 +26,17 @@ pub fn sandwich()
 pub fn addition()
     ensures sine { SineAddition }
     ensures cosine { CosineAddition }
+{}
+
+/// Bound by one: no long enough `L_n(x)` is above 1, and no long enough `U_n(x)` below -1, for sine and cosine.
+pub fn bound_by_one()
+    ensures sine { SineBound }
+    ensures cosine { CosineBound }
+{}
+
+/// Lipschitz: `L_n(x) - U_n(y)` is at most `|x - y|`, for sine and cosine, where n is long enough for x and for y. So
+/// what bounds the sine of one angle bounds that of another, once it is widened by their distance.
+pub fn lipschitz()
+    ensures sine { SineLipschitz }
+    ensures cosine { CosineLipschitz }
 {}
