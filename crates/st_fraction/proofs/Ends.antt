@@ -1,7 +1,7 @@
 -- The lesser and the greater of two fractions at a common scale are those of their whole numbers.
-use Rattle.std.proofs.Common.{◌≡◌, ℕ, ◌*◌, ◌≤◌, ◌<◌, Bool, true, false, cond, ℤ, pos, ◌*ℤ◌, ◌≤ℤ◌, ◌<ℤ◌, int_le, ◌⊎◌, inl, inr, refl, arith, mul-pos}
+use Rattle.std.proofs.Common.{◌≡◌, ℕ, ◌<◌, Bool, true, false, cond, ℤ, ◌≤ℤ◌, int_le, ◌⊎◌, inl, inr, refl, arith}
 use Rattle.std.proofs.lemmas.Int.{ints}
-use Rattle.st_fraction.specs.Fraction.{Fraction, ◌≤ᶠ◌, least, greatest}
+use Rattle.st_fraction.specs.Fraction.{Fraction, least, greatest}
 use Rattle.st_fraction.proofs.Ring.{lin}
 use Rattle.st_fraction.proofs.Order.{least_cases, greatest_cases}
 use Rattle.st_fraction.proofs.Scale.{IsAt, at_le}

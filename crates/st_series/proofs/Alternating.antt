@@ -1,8 +1,8 @@
 -- An alternating sum whose terms shrink: each sum lies between the two before it, so the lesser of two neighbouring
 -- sums rises and the greater falls.
-use Rattle.std.proofs.Common.{◌≡◌, ℕ, zero, suc, ◌+◌, ◌*◌, ◌≤◌, ◌<◌, ℤ, pos, negsuc, ◌+ℤ◌, ◌*ℤ◌, neg_ℤ, ◌≤ℤ◌, ◌⊎◌, inl, inr, refl, sym, ap, ◌∙◌, arith, mul-le-mul_right, le_of_mul-le-mul_right}
+use Rattle.std.proofs.Common.{◌≡◌, ℕ, zero, suc, ◌*◌, ◌≤◌, ◌<◌, ℤ, pos, negsuc, ◌+ℤ◌, ◌*ℤ◌, neg_ℤ, ◌≤ℤ◌, ◌⊎◌, inl, inr, arith, mul-le-mul_right, le_of_mul-le-mul_right}
 use Rattle.std.proofs.lemmas.Int.{ints}
-use Rattle.st_fraction.proofs.Ring.{ring, lin}
+use Rattle.st_fraction.proofs.Ring.{lin}
 use Rattle.st_fraction.proofs.Ends.{lesser, greater, AreEnds, ends}
 use Rattle.st_series.specs.Series.{turned}
 

@@ -1,12 +1,12 @@
 -- Neither sine nor cosine is above 1 or below -1: the sum of their squares is 1, up to a term that vanishes.
-use Rattle.std.proofs.Common.{◌≡◌, ℕ, zero, suc, ◌+◌, ◌-◌, ◌*◌, ◌^◌, ◌≤◌, ◌<◌, ℤ, pos, negsuc, ◌+ℤ◌, ◌-ℤ◌, ◌*ℤ◌, neg_ℤ, ◌≤ℤ◌, ◌<ℤ◌, unsigned_abs, refl, sym, ap, ◌∙◌, arith, mul-pos, mul-le-mul, mul-le-mul_left, mul-le-mul_right}
-use Rattle.std.proofs.lemmas.Int.{ints, by_lt_z}
-use Rattle.st_fraction.specs.Fraction.{Fraction, IsFraction, ◌≤ᶠ◌, ◌<ᶠ◌, over, whole, abs_f}
-use Rattle.st_fraction.proofs.Ring.{ring, lin, square_abs, neg-mul_z, mul-neg_z}
+use Rattle.std.proofs.Common.{◌≡◌, ℕ, suc, ◌+◌, ◌*◌, ◌≤◌, ◌<◌, ℤ, pos, negsuc, ◌+ℤ◌, ◌-ℤ◌, ◌*ℤ◌, neg_ℤ, ◌≤ℤ◌, unsigned_abs, refl, ap, ◌∙◌, arith, mul-pos, mul-le-mul, mul-le-mul_right}
+use Rattle.std.proofs.lemmas.Int.{ints}
+use Rattle.st_fraction.specs.Fraction.{Fraction, ◌<ᶠ◌, over, whole}
+use Rattle.st_fraction.proofs.Ring.{lin, square_abs, neg-mul_z, mul-neg_z}
 use Rattle.st_fraction.proofs.Within.{Within}
 use Rattle.st_fraction.proofs.Order.{le_f_cases}
-use Rattle.st_fraction.proofs.Scale.{IsAt, at_self, at_above, at_below}
-use Rattle.st_series.specs.Series.{term, sine_sum, cosine_sum, IsLongEnough, sine_lower, sine_upper, cosine_lower, cosine_upper}
+use Rattle.st_fraction.proofs.Scale.{at_self, at_above, at_below}
+use Rattle.st_series.specs.Series.{term, sine_sum, cosine_sum, sine_lower, sine_upper, cosine_lower, cosine_upper}
 use Rattle.st_series.specs.Laws.{SineBound, CosineBound}
 use Rattle.st_series.proofs.Terms.{rest, rest-pos, scaled_term, series_exists, term_at, sine_of, cosine_of, sine_at, cosine_at, term-den, sine_sum-den, cosine_sum-den}
 use Rattle.st_series.proofs.Tail.{scaled_term-nonneg}

@@ -11,3 +11,5 @@ pub mod Sandwich
 pub mod Parity
 pub mod BoundByOne
 pub mod Lipschitz
+pub mod Narrow
+pub mod Values

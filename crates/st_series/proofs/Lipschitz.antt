@@ -1,13 +1,13 @@
 -- Two sines, and two cosines, are no farther apart than their angles. With u half the sum and h half the difference of
 -- x and y, the sine of x less that of y is twice the cosine of u times the sine of h, up to terms that vanish.
-use Rattle.std.proofs.Common.{◌≡◌, ℕ, zero, suc, ◌+◌, ◌-◌, ◌*◌, ◌≤◌, ◌<◌, ℤ, pos, negsuc, ◌+ℤ◌, ◌-ℤ◌, ◌*ℤ◌, neg_ℤ, ◌≤ℤ◌, ◌<ℤ◌, unsigned_abs, ◌⊎◌, inl, inr, refl, sym, ap, ◌∙◌, arith, mul-pos, mul-le-mul, mul-le-mul_left, mul-le-mul_right, le_of_mul-le-mul_right}
+use Rattle.std.proofs.Common.{◌≡◌, ℕ, suc, ◌+◌, ◌*◌, ◌≤◌, ◌<◌, ℤ, pos, negsuc, ◌+ℤ◌, ◌-ℤ◌, ◌*ℤ◌, neg_ℤ, ◌≤ℤ◌, ◌<ℤ◌, unsigned_abs, ◌⊎◌, inl, inr, refl, sym, ap, ◌∙◌, arith, mul-pos, mul-le-mul, mul-le-mul_left, mul-le-mul_right}
 use Rattle.std.proofs.lemmas.Int.{ints, by_lt_z, unsigned_abs-mul}
-use Rattle.st_fraction.specs.Fraction.{Fraction, IsFraction, ◌≤ᶠ◌, over, whole, ◌+ᶠ◌, ◌-ᶠ◌, abs_f}
-use Rattle.st_fraction.proofs.Ring.{ring, lin, le-mul_z, le-mul_nonneg, le_cancel_z, one-mul_z, mul-neg_z, neg-mul_z, mul-add_z}
+use Rattle.st_fraction.specs.Fraction.{Fraction, IsFraction, over, ◌+ᶠ◌, ◌-ᶠ◌}
+use Rattle.st_fraction.proofs.Ring.{ring, lin, le-mul_z, le_cancel_z, one-mul_z, mul-neg_z, neg-mul_z, mul-add_z}
 use Rattle.st_fraction.proofs.Within.{Within}
-use Rattle.st_fraction.proofs.Scale.{IsAt, at_self, at_more, at_above, at_below}
+use Rattle.st_fraction.proofs.Scale.{IsAt, at_more, at_above, at_below}
 use Rattle.st_fraction.proofs.Ends.{lesser, greater, ends}
-use Rattle.st_series.specs.Series.{sine_sum, cosine_sum, IsLongEnough, sine_lower, sine_upper, cosine_lower, cosine_upper}
+use Rattle.st_series.specs.Series.{sine_sum, cosine_sum, sine_lower, sine_upper, cosine_lower, cosine_upper}
 use Rattle.st_series.specs.Laws.{SineLipschitz, CosineLipschitz}
 use Rattle.st_series.proofs.Terms.{rest, rest-pos, scaled_term, series_exists, sine_of, cosine_of, sine_at, cosine_at, sine_sum-den, cosine_sum-den}
 use Rattle.st_series.proofs.Addition.{sum_of_sizes, sine_at_scale, cosine_at_scale, first_over, second_over}

@@ -1,9 +1,8 @@
 -- The sums at the negative of an argument, and at 0.
-use Rattle.std.proofs.Common.{◌≡◌, ℕ, zero, suc, ◌+◌, ◌-◌, ◌*◌, ◌≤◌, ◌<◌, ℤ, pos, ◌+ℤ◌, ◌*ℤ◌, neg_ℤ, refl, sym, ap, ◌∙◌, arith}
-use Rattle.std.proofs.lemmas.Int.{ints}
-use Rattle.std.proofs.Math.IntN.{*ℤ-zero, zero-*ℤ, neg_ℤ-neg_ℤ, +ℤ_idr}
+use Rattle.std.proofs.Common.{◌≡◌, ℕ, zero, suc, ◌+◌, ◌-◌, ◌*◌, ℤ, pos, ◌+ℤ◌, ◌*ℤ◌, neg_ℤ, refl, ap, ◌∙◌, arith}
+use Rattle.std.proofs.Math.IntN.{*ℤ-zero, zero-*ℤ, +ℤ_idr}
 use Rattle.st_fraction.proofs.Ring.{ring, neg-mul_z, mul-neg_z, one-mul_z}
-use Rattle.st_fraction.proofs.Sums.{upto, upto-ext, upto-neg}
+use Rattle.st_fraction.proofs.Sums.{upto-ext, upto-neg}
 use Rattle.st_series.specs.Series.{power, turned}
 use Rattle.st_series.proofs.Terms.{rest, scaled_term, sine_of, cosine_of}
 

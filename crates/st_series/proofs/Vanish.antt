@@ -1,10 +1,10 @@
 -- The terms of the series vanish: a^k / (b^k k!) falls below c / d from an explicit k on.
-use Rattle.std.proofs.Common.{◌≡◌, ℕ, zero, suc, ◌+◌, ◌-◌, ◌*◌, ◌^◌, ◌≤◌, ◌<◌, ℤ, pos, negsuc, ◌*ℤ◌, ◌≤ℤ◌, ◌<ℤ◌, unsigned_abs, refl, sym, ap, ◌∙◌, arith, mul-pos, mul-le-mul, mul-le-mul_left, mul-le-mul_right, le_trans}
+use Rattle.std.proofs.Common.{◌≡◌, ℕ, zero, suc, ◌+◌, ◌-◌, ◌*◌, ◌^◌, ◌≤◌, ◌<◌, ℤ, pos, negsuc, ◌*ℤ◌, ◌≤ℤ◌, unsigned_abs, refl, arith, mul-pos, mul-le-mul, mul-le-mul_left, mul-le-mul_right, le_trans}
 use Rattle.std.proofs.Math.Nat.{pow-zero, pow-suc}
 use Rattle.std.proofs.lemmas.Nat.{mul-pow, pow-add}
 use Rattle.std.proofs.lemmas.Int.{ints}
-use Rattle.st_fraction.specs.Fraction.{Fraction, IsFraction, ◌≤ᶠ◌, ◌<ᶠ◌, over, whole, abs_f}
-use Rattle.st_series.specs.Series.{factorial, power, term}
+use Rattle.st_fraction.specs.Fraction.{Fraction, ◌≤ᶠ◌, ◌<ᶠ◌, whole, abs_f}
+use Rattle.st_series.specs.Series.{power, term}
 use Rattle.st_series.specs.Laws.{Vanishing}
 use Rattle.st_series.proofs.Terms.{factorial-pos, power-pos}
 use Rattle.st_series.proofs.PartialSums.{full}
@@ -56,4 +56,4 @@ vanishing_from z e pz h k l = record { le = rw (power_is (unsigned_abs z.num) k)
     by (negsuc c) i = absurd (omega (arith, ints, h.lt, i))
 
 pub vanishing : Vanishing
-vanishing z e pz pe h = (enough_for z e, λ m l. vanishing_from z e pz.positive h (2 * m + 2) (omega arith))
+vanishing z e pz h = (enough_for z e, λ k l. vanishing_from z e pz.positive h k l)

@@ -1,6 +1,6 @@
 //! The laws of the partial sums. Each function does nothing: its contract is the law, for all fractions and all n.
 
-ghost use Rattle.st_series.specs.Laws.{SineOverOne, CosineOverOne, AtZero, AtOne, SineSandwich, CosineSandwich, LongEnoughStays, SineInOrder, CosineInOrder, Vanishing, SineAddition, CosineAddition, SineBound, CosineBound, SineLipschitz, CosineLipschitz};
+ghost use Rattle.st_series.specs.Laws.{SineOverOne, CosineOverOne, AtZero, AtOne, SineSandwich, CosineSandwich, LongEnoughStays, SineInOrder, CosineInOrder, Vanishing, LongEnoughExists, SineNarrow, CosineNarrow, SineAgrees, CosineAgrees, SineAddition, CosineAddition, SineBound, CosineBound, SineLipschitz, CosineLipschitz};
 
 /// What the partial sums are: one numerator over one denominator, and their values at 0 and at 1.
 pub fn partial_sums()
@@ -19,6 +19,16 @@ pub fn sandwich()
     ensures sine_in_order { SineInOrder }
     ensures cosine_in_order { CosineInOrder }
     ensures vanishing { Vanishing }
+{}
+
+/// Sine and cosine have one value each: some n is long enough, its ends are no farther apart than the first term that
+/// is left out between them, and what is at least a and at most b has `a <= b`.
+pub fn one_value()
+    ensures long_enough_exists { LongEnoughExists }
+    ensures sine_narrow { SineNarrow }
+    ensures cosine_narrow { CosineNarrow }
+    ensures sine_agrees { SineAgrees }
+    ensures cosine_agrees { CosineAgrees }
 {}
 
 /// The addition laws: `S_n(x + y)` and `S_n(x) C_n(y) + C_n(x) S_n(y)` differ by at most twice the first term that they
