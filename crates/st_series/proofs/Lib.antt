@@ -10,6 +10,7 @@ pub mod Alternating
 pub mod Sandwich
 pub mod Parity
 pub mod BoundByOne
+pub mod Apart
 pub mod Lipschitz
 pub mod Narrow
 pub mod Values
