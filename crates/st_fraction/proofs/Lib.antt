@@ -3,3 +3,4 @@ pub mod Within
 pub mod Sums
 pub mod Order
 pub mod Scale
+pub mod Ends

@@ -1,8 +1,8 @@
 -- The order of fractions: transitive, total, and in step with sums, products, least and greatest.
-use Rattle.std.proofs.Common.{◌≡◌, ◌*◌, ◌<◌, Bool, true, false, cond, ℤ, pos, negsuc, ◌*ℤ◌, neg_ℤ, unsigned_abs, ◌≤ℤ◌, int_le, refl, sym, arith, mul-pos}
+use Rattle.std.proofs.Common.{◌≡◌, ℕ, ◌*◌, ◌<◌, Bool, true, false, cond, ℤ, pos, negsuc, ◌*ℤ◌, neg_ℤ, unsigned_abs, ◌+ℤ◌, ◌≤ℤ◌, ◌<ℤ◌, int_le, refl, sym, arith, mul-pos}
 use Rattle.std.proofs.lemmas.Int.{ints, by_lt_z}
-use Rattle.st_fraction.specs.Fraction.{Fraction, ◌≤ᶠ◌, ◌<ᶠ◌, ◌≈ᶠ◌, ◌+ᶠ◌, neg_f, ◌*ᶠ◌, abs_f, least, greatest, IsNear}
-use Rattle.st_fraction.proofs.Ring.{ring, lin, le-mul_z, le-mul_nonneg, le_cancel_z, neg-mul_z}
+use Rattle.st_fraction.specs.Fraction.{Fraction, IsFraction, ◌≤ᶠ◌, ◌<ᶠ◌, ◌≈ᶠ◌, over, whole, ◌+ᶠ◌, neg_f, ◌-ᶠ◌, ◌*ᶠ◌, abs_f, least, greatest, IsNear}
+use Rattle.st_fraction.proofs.Ring.{ring, lin, le-mul_z, le-mul_nonneg, le_cancel_z, neg-mul_z, lt-mul_z, numerals}
 
 pub le_f_refl : (a : Fraction) → a ≤ᶠ a
 le_f_refl a = record { le = omega (arith, lin) }
@@ -103,3 +103,49 @@ near_same a b c d e pc pd pe pa pb h k n = record {
   above = le_f_trans a c (b +ᶠ e) pc (le_of_same a c h) (le_f_trans c (d +ᶠ e) (b +ᶠ e) (mul-pos pd pe) n.above (le_f_add d b e e (le_of_same d b (same_sym b d k)) (le_f_refl e)));
   below = le_f_trans b d (a +ᶠ e) pd (le_of_same b d k) (le_f_trans d (c +ᶠ e) (a +ᶠ e) (mul-pos pc pe) n.below (le_f_add c a e e (le_of_same c a (same_sym a c h)) (le_f_refl e)));
 }
+
+-- half of a - b
+unfoldable pub half_between : Fraction → Fraction → Fraction
+half_between a b = over (a.num *ℤ pos b.den +ℤ neg_ℤ b.num *ℤ pos a.den) (2 * (a.den * b.den))
+
+pub half_above_zero : (a b : Fraction) → b <ᶠ a → whole (pos 0) <ᶠ half_between a b
+unfolding half_between
+half_above_zero a b h =
+    let e = neg-mul_z b.num (pos a.den) in
+    record { lt = go (a.num *ℤ pos b.den) (b.num *ℤ pos a.den) (neg_ℤ b.num *ℤ pos a.den) (2 * (a.den * b.den)) h.lt e }
+  where
+    go : (x y z : ℤ) (n : ℕ) → y <ℤ x → z ≡ neg_ℤ y → (pos 0 *ℤ pos n) <ℤ ((x +ℤ z) *ℤ pos 1)
+    go x y z n h e = omega (arith, ints)
+
+-- What is at most b + e for every e above 0 is at most b.
+pub le_of_near : (a b : Fraction) → 0 < a.den → 0 < b.den → ((e : Fraction) → IsFraction e → whole (pos 0) <ᶠ e → a ≤ᶠ (b +ᶠ e)) → a ≤ᶠ b
+unfolding half_between
+le_of_near a b pa pb near = le_f_cases a b (λ h. h) (λ (h : b <ᶠ a).
+    absurd (go a.num b.num a.den b.den pa pb h.lt ((near (half_between a b) (record { positive = mul-pos (omega arith) (mul-pos pa pb) }) (half_above_zero a b h)).le)))
+  where
+    twice : (a b c d : ℤ) → a *ℤ (d *ℤ (pos 2 *ℤ (c *ℤ d))) ≡ (a *ℤ d) *ℤ (c *ℤ d) +ℤ (a *ℤ d) *ℤ (c *ℤ d)
+    twice a b c d = simp (numerals, ring)
+
+    sum : (a b c d : ℤ) → (b *ℤ (pos 2 *ℤ (c *ℤ d)) +ℤ (a *ℤ d +ℤ neg_ℤ b *ℤ c) *ℤ d) *ℤ c ≡ (b *ℤ c) *ℤ (c *ℤ d) +ℤ (a *ℤ d) *ℤ (c *ℤ d)
+    sum a b c d = simp (numerals, ring) (omega (arith, lin))
+
+    go : (a b : ℤ) (c d : ℕ) → 0 < c → 0 < d → (b *ℤ pos c) <ℤ (a *ℤ pos d)
+        → (a *ℤ pos (d * (2 * (c * d)))) ≤ℤ ((b *ℤ pos (2 * (c * d)) +ℤ (a *ℤ pos d +ℤ neg_ℤ b *ℤ pos c) *ℤ pos d) *ℤ pos c) → ⊥
+    go a b c d pc pd h k =
+        let l = twice a b (pos c) (pos d) in
+        let r = sum a b (pos c) (pos d) in
+        let m = lt-mul_z (b *ℤ pos c) (a *ℤ pos d) (c * d) (mul-pos pc pd) h in
+        omega (arith, lin, l, r, m)
+
+-- a - b ≤ c is a ≤ b + c.
+pub le_f_move : (a b c : Fraction) → 0 < b.den → (a -ᶠ b) ≤ᶠ c → a ≤ᶠ (b +ᶠ c)
+le_f_move a b c pb h = record { le = le_cancel_z _ _ b.den pb (go a.num (pos a.den) b.num (pos b.den) c.num (pos c.den) (le-mul_z _ _ b.den h.le)) }
+  where
+    go : (a d b e c f : ℤ) → ((a *ℤ e +ℤ neg_ℤ b *ℤ d) *ℤ f *ℤ e) ≤ℤ (c *ℤ (d *ℤ e) *ℤ e) → (a *ℤ (e *ℤ f) *ℤ e) ≤ℤ ((b *ℤ f +ℤ c *ℤ e) *ℤ d *ℤ e)
+    go a d b e c f h = simp ring (let h2 = simp ring at h in omega (arith, lin))
+
+pub le_f_move_back : (a b c : Fraction) → 0 < b.den → a ≤ᶠ (b +ᶠ c) → (a -ᶠ b) ≤ᶠ c
+le_f_move_back a b c pb h = record { le = le_cancel_z _ _ b.den pb (go a.num (pos a.den) b.num (pos b.den) c.num (pos c.den) (le-mul_z _ _ b.den h.le)) }
+  where
+    go : (a d b e c f : ℤ) → (a *ℤ (e *ℤ f) *ℤ e) ≤ℤ ((b *ℤ f +ℤ c *ℤ e) *ℤ d *ℤ e) → ((a *ℤ e +ℤ neg_ℤ b *ℤ d) *ℤ f *ℤ e) ≤ℤ (c *ℤ (d *ℤ e) *ℤ e)
+    go a d b e c f h = simp ring (let h2 = simp ring at h in omega (arith, lin))

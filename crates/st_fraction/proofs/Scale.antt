@@ -86,3 +86,28 @@ same_at m a b x some h k = record { same = cancel_z _ _ m some (go a.num (pos a.
         let c : x *ℤ d *ℤ e ≡ x *ℤ e *ℤ d = simp ring in
         let r : p *ℤ m *ℤ d ≡ p *ℤ d *ℤ m = simp ring in
         l ∙ ap (λ z. z *ℤ e) h ∙ c ∙ ap (λ z. z *ℤ d) (sym k) ∙ r
+
+-- against a fraction of another denominator
+pub at_above : (m : ℕ) (a b : Fraction) (y : ℤ) → 0 < b.den → IsAt m b y → b ≤ᶠ a → (y *ℤ pos a.den) ≤ℤ (a.num *ℤ pos m)
+at_above m a b y pb h l = le_cancel_z _ _ b.den pb (go a.num (pos a.den) b.num (pos b.den) (pos m) y h.at (le-mul_z _ _ m l.le))
+  where
+    go : (n d p e m y : ℤ) → p *ℤ m ≡ y *ℤ e → (p *ℤ d *ℤ m) ≤ℤ (n *ℤ e *ℤ m) → (y *ℤ d *ℤ e) ≤ℤ (n *ℤ m *ℤ e)
+    go n d p e m y h l =
+        let u : y *ℤ d *ℤ e ≡ p *ℤ d *ℤ m =
+        let l : y *ℤ d *ℤ e ≡ y *ℤ e *ℤ d = simp ring in
+        let r : p *ℤ m *ℤ d ≡ p *ℤ d *ℤ m = simp ring in
+        l ∙ ap (λ z. z *ℤ d) (sym h) ∙ r in
+        let v : n *ℤ m *ℤ e ≡ n *ℤ e *ℤ m = simp ring in
+        rw (u, v) l
+
+pub at_below : (m : ℕ) (a b : Fraction) (y : ℤ) → 0 < b.den → IsAt m b y → a ≤ᶠ b → (a.num *ℤ pos m) ≤ℤ (y *ℤ pos a.den)
+at_below m a b y pb h l = le_cancel_z _ _ b.den pb (go a.num (pos a.den) b.num (pos b.den) (pos m) y h.at (le-mul_z _ _ m l.le))
+  where
+    go : (n d p e m y : ℤ) → p *ℤ m ≡ y *ℤ e → (n *ℤ e *ℤ m) ≤ℤ (p *ℤ d *ℤ m) → (n *ℤ m *ℤ e) ≤ℤ (y *ℤ d *ℤ e)
+    go n d p e m y h l =
+        let u : y *ℤ d *ℤ e ≡ p *ℤ d *ℤ m =
+        let l : y *ℤ d *ℤ e ≡ y *ℤ e *ℤ d = simp ring in
+        let r : p *ℤ m *ℤ d ≡ p *ℤ d *ℤ m = simp ring in
+        l ∙ ap (λ z. z *ℤ d) (sym h) ∙ r in
+        let v : n *ℤ m *ℤ e ≡ n *ℤ e *ℤ m = simp ring in
+        rw (u, v) l

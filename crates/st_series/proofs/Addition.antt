@@ -1,15 +1,15 @@
 -- The addition laws of the partial sums of sine and cosine.
-use Rattle.std.proofs.Common.{◌≡◌, ℕ, zero, suc, ◌+◌, ◌-◌, ◌*◌, ◌≤◌, ◌<◌, ℤ, pos, ◌+ℤ◌, ◌-ℤ◌, ◌*ℤ◌, neg_ℤ, ◌≤ℤ◌, unsigned_abs, refl, sym, ap, ◌∙◌, arith, mul-pos}
+use Rattle.std.proofs.Common.{◌≡◌, ℕ, suc, ◌+◌, ◌*◌, ◌≤◌, ◌<◌, ℤ, pos, ◌+ℤ◌, ◌-ℤ◌, ◌*ℤ◌, neg_ℤ, ◌≤ℤ◌, unsigned_abs, refl, sym, ap, ◌∙◌, arith, mul-pos}
 use Rattle.std.proofs.lemmas.Int.{ints, unsigned_abs-mul}
 use Rattle.std.proofs.Math.IntN.{*ℤ_comm}
-use Rattle.st_fraction.specs.Fraction.{Fraction, IsFraction, ◌≤ᶠ◌, over, whole, ◌+ᶠ◌, ◌-ᶠ◌, ◌*ᶠ◌, abs_f, IsNear}
+use Rattle.st_fraction.specs.Fraction.{Fraction, IsFraction, ◌≤ᶠ◌, whole, ◌+ᶠ◌, ◌*ᶠ◌, abs_f, IsNear}
 use Rattle.st_fraction.proofs.Ring.{ring, lin, le-mul_nonneg, one-mul_z, two-mul_z}
 use Rattle.st_fraction.proofs.Within.{Within, within_mul}
 use Rattle.st_fraction.proofs.Sums.{upto, upto-ext, upto-scale}
 use Rattle.st_fraction.proofs.Scale.{IsAt, at_self, at_more, at_add, at_sub, at_mul, le_at}
 use Rattle.st_series.specs.Series.{term, sine_sum, cosine_sum}
 use Rattle.st_series.specs.Laws.{SineAddition, CosineAddition}
-use Rattle.st_series.proofs.Convolution.{conv, binomial}
+use Rattle.st_series.proofs.Convolution.{binomial}
 use Rattle.st_series.proofs.Terms.{rest, rest-pos, scaled_term, series_exists, term_at, sine_of, cosine_of, sine_at, cosine_at}
 use Rattle.st_series.proofs.Squares.{square, across, triangle, product_of_sums, square-ext, square-add, square-neg, square-gap, square_le_triangle, across-weighted}
 use Rattle.st_series.proofs.Waves.{wave_c, wave_s, add_waves, wave_s-within, wave_c-within, sine_waves, cosine_waves}

@@ -1,7 +1,7 @@
 -- The binomial theorem without binomials. A series is a sequence f with q (d + 1) f (d + 1) = p f d, which is
 -- f 0 (p/q)^d / d!; the sum of f a * g b over a + b = d is then such a sequence for the sum of the arguments, by the
 -- rule of Leibniz.
-use Rattle.std.proofs.Common.{◌≡◌, ℕ, zero, suc, ◌+◌, ◌*◌, ◌≤◌, ◌<◌, ℤ, pos, ◌+ℤ◌, ◌*ℤ◌, refl, sym, ap, ◌∙◌, arith, mul-pos}
+use Rattle.std.proofs.Common.{◌≡◌, ℕ, zero, suc, ◌*◌, ◌≤◌, ◌<◌, ℤ, pos, ◌+ℤ◌, ◌*ℤ◌, refl, sym, ap, ◌∙◌, arith, mul-pos}
 use Rattle.std.proofs.lemmas.Int.{ints}
 use Rattle.st_fraction.proofs.Ring.{ring, lin, mul-add_z, suc-mul_z, mul_left_comm_z, one-mul_z, cancel_z}
 

@@ -5,3 +5,12 @@ pub mod Waves
 pub mod Tail
 pub mod Addition
 pub mod PartialSums
+pub mod Vanish
+pub mod Alternating
+pub mod Sandwich
+pub mod Parity
+pub mod BoundByOne
+pub mod Apart
+pub mod Lipschitz
+pub mod Narrow
+pub mod Values

@@ -1,15 +1,14 @@
 -- What the partial sums are: one numerator over one denominator, and their values at 0 and at 1.
-use Rattle.std.proofs.Common.{◌≡◌, ℕ, zero, suc, ◌+◌, ◌*◌, ◌^◌, ◌≤◌, ◌<◌, ℤ, pos, ◌+ℤ◌, ◌*ℤ◌, neg_ℤ, refl, sym, ap, ◌∙◌, arith}
-use Rattle.std.proofs.Math.Nat.{pow-zero, pow-suc}
+use Rattle.std.proofs.Common.{◌≡◌, ℕ, zero, suc, ◌+◌, ◌*◌, ◌^◌, pos, neg_ℤ, refl, ap, ◌∙◌, arith}
+use Rattle.std.proofs.Math.Nat.{pow-suc}
 use Rattle.std.proofs.Math.IntN.{*ℤ-zero}
 use Rattle.std.proofs.lemmas.Int.{ints}
-use Rattle.st_fraction.specs.Fraction.{Fraction, IsFraction, ◌≈ᶠ◌, over, whole}
+use Rattle.st_fraction.specs.Fraction.{Fraction, over, whole}
 use Rattle.st_fraction.proofs.Ring.{one-mul_z}
-use Rattle.st_fraction.proofs.Sums.{upto}
 use Rattle.st_fraction.proofs.Scale.{IsAt, at_self, at_more, at_add}
-use Rattle.st_series.specs.Series.{factorial, power, turned, term, alternating, sum_to, sine_sum, cosine_sum, sine_num, cosine_num}
+use Rattle.st_series.specs.Series.{factorial, power, turned, term, alternating, sine_sum, cosine_sum, sine_num, cosine_num}
 use Rattle.st_series.specs.Laws.{SineOverOne, CosineOverOne, AtZero, AtOne}
-use Rattle.st_series.proofs.Terms.{alternating_at, sum_at}
+use Rattle.st_series.proofs.Terms.{alternating_at}
 
 -- q^k k!
 abbrev pub full : ℕ → ℕ → ℕ

@@ -1,9 +1,9 @@
 -- A product of two partial sums is a sum over a square of indices; its terms up to a total degree are the triangle in
 -- it, and what lies outside of the triangle is bounded by the same of a majorant.
-use Rattle.std.proofs.Common.{◌≡◌, ℕ, zero, suc, ◌+◌, ◌≤◌, ℤ, pos, ◌+ℤ◌, ◌-ℤ◌, ◌*ℤ◌, neg_ℤ, ◌≤ℤ◌, refl, sym, ap, ◌∙◌, arith}
+use Rattle.std.proofs.Common.{◌≡◌, ℕ, zero, suc, ◌+◌, ℤ, pos, ◌+ℤ◌, ◌-ℤ◌, ◌*ℤ◌, neg_ℤ, ◌≤ℤ◌, refl, sym, ap, ◌∙◌, arith}
 use Rattle.std.proofs.lemmas.Int.{ints}
-use Rattle.st_fraction.proofs.Ring.{ring, lin, add-mul_z, mul-add_z}
-use Rattle.st_fraction.proofs.Within.{Within, within_add}
+use Rattle.st_fraction.proofs.Ring.{lin, add-mul_z, mul-add_z}
+use Rattle.st_fraction.proofs.Within.{Within}
 use Rattle.st_fraction.proofs.Sums.{upto, upto-ext, upto-peel, upto-scale, upto-add, upto-neg, upto-rises}
 use Rattle.st_series.proofs.Convolution.{conv}
 

@@ -1,12 +1,11 @@
 -- From a degree on each term is at most half of the one before it, so all later terms together are at most twice the
 -- first of them.
-use Rattle.std.proofs.Common.{◌≡◌, ℕ, zero, suc, ◌+◌, ◌-◌, ◌*◌, ◌≤◌, ◌<◌, ℤ, pos, negsuc, ◌+ℤ◌, ◌-ℤ◌, ◌*ℤ◌, ◌≤ℤ◌, refl, sym, ap, ◌∙◌, arith, mul-le-mul_right, mul-le-mul_left, le_of_mul-le-mul_right, mul-pos}
+use Rattle.std.proofs.Common.{◌≡◌, ℕ, zero, suc, ◌+◌, ◌-◌, ◌*◌, ◌≤◌, ◌<◌, ℤ, pos, negsuc, ◌+ℤ◌, ◌*ℤ◌, ◌≤ℤ◌, arith, mul-le-mul_right, le_of_mul-le-mul_right, mul-pos}
 use Rattle.std.proofs.lemmas.Int.{ints}
-use Rattle.st_fraction.proofs.Ring.{ring, lin, le-mul_nonneg}
+use Rattle.st_fraction.proofs.Ring.{lin, le-mul_nonneg}
 use Rattle.st_fraction.proofs.Within.{Within, within_abs, within_mul, within_scale}
 use Rattle.st_fraction.proofs.Sums.{upto}
 use Rattle.st_series.specs.Series.{power}
-use Rattle.st_series.proofs.Convolution.{IsSeries}
 use Rattle.st_series.proofs.Terms.{scaled_term, series_exists, rest}
 use Rattle.std.specs.Prelude.{unsigned_abs}
 

@@ -1,13 +1,13 @@
 -- The terms x^d / d! and the partial sums at a common scale, where each is a whole number.
-use Rattle.std.proofs.Common.{◌≡◌, ℕ, zero, suc, ◌+◌, ◌-◌, ◌*◌, ◌^◌, ◌≤◌, ◌<◌, ℤ, pos, ◌+ℤ◌, ◌*ℤ◌, neg_ℤ, refl, sym, ap, ◌∙◌, arith, mul-pos}
+use Rattle.std.proofs.Common.{◌≡◌, ℕ, zero, suc, ◌+◌, ◌-◌, ◌*◌, ◌^◌, ◌≤◌, ◌<◌, ℤ, pos, ◌*ℤ◌, sym, ap, ◌∙◌, arith, mul-pos}
 use Rattle.std.proofs.Math.Nat.{pow-zero, pow-suc}
 use Rattle.std.proofs.lemmas.Int.{ints}
-use Rattle.st_fraction.specs.Fraction.{Fraction, over, ◌+ᶠ◌, neg_f}
-use Rattle.st_fraction.proofs.Ring.{ring, lin, one-mul_z, cancel_z}
+use Rattle.st_fraction.specs.Fraction.{Fraction}
+use Rattle.st_fraction.proofs.Ring.{ring, one-mul_z, cancel_z}
 use Rattle.st_fraction.proofs.Sums.{upto}
 use Rattle.st_fraction.proofs.Scale.{IsAt, at_add, at_neg}
 use Rattle.st_series.specs.Series.{factorial, power, turned, term, alternating, sum_to, sine_sum, cosine_sum}
-use Rattle.st_series.proofs.Convolution.{IsSeries, der}
+use Rattle.st_series.proofs.Convolution.{IsSeries}
 
 -- the product of q (d + j) for j from 1 to k
 abbrev pub rest : ℕ → ℕ → ℕ → ℕ

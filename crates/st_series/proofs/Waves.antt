@@ -1,8 +1,8 @@
 -- The signs of the series of cosine and of sine, degree by degree: 1, 0, -1, 0, .. and 0, 1, 0, -1, .., the two parts of
 -- the powers of the imaginary unit. With them both partial sums run over the same degrees.
-use Rattle.std.proofs.Common.{◌≡◌, ℕ, zero, suc, ◌+◌, ◌*◌, ◌≤◌, ℤ, pos, ◌+ℤ◌, ◌-ℤ◌, ◌*ℤ◌, neg_ℤ, refl, sym, ap, ◌∙◌, arith}
+use Rattle.std.proofs.Common.{◌≡◌, ℕ, zero, suc, ◌+◌, ◌*◌, ℤ, pos, ◌+ℤ◌, ◌*ℤ◌, neg_ℤ, refl, ap, ◌∙◌, arith}
 use Rattle.std.proofs.lemmas.Int.{ints}
-use Rattle.st_fraction.proofs.Ring.{ring, numerals, lin, neg-mul_z, one-mul_z}
+use Rattle.st_fraction.proofs.Ring.{ring, lin, neg-mul_z, one-mul_z}
 use Rattle.st_fraction.proofs.Within.{Within, within_neg}
 use Rattle.st_fraction.proofs.Sums.{upto}
 use Rattle.st_series.specs.Series.{turned}

@@ -1,8 +1,8 @@
 -- The laws of sine and cosine that the enclosures stand on, each for all fractions and all n, over the partial sums
 -- alone.
-use Rattle.std.specs.Prelude.{ℕ, suc, ◌+◌, ◌*◌, ◌^◌, ◌≤◌, pos, negsuc}
+use Rattle.std.specs.Prelude.{ℕ, ◌+◌, ◌*◌, ◌^◌, ◌≤◌, pos, negsuc}
 use Rattle.st_fraction.specs.Fraction.{Fraction, IsFraction, ◌≤ᶠ◌, ◌<ᶠ◌, ◌≈ᶠ◌, over, whole, ◌+ᶠ◌, ◌-ᶠ◌, ◌*ᶠ◌, abs_f, IsNear}
-use Rattle.st_series.specs.Series.{factorial, term, sine_sum, cosine_sum, IsLongEnough, sine_lower, sine_upper, cosine_lower, cosine_upper, sine_num, cosine_num}
+use Rattle.st_series.specs.Series.{factorial, term, sine_sum, cosine_sum, IsLongEnough, sine_lower, sine_upper, cosine_lower, cosine_upper, sine_num, cosine_num, SineIsAtLeast, SineIsAtMost, CosineIsAtLeast, CosineIsAtMost}
 
 -- Each partial sum at p/q is one numerator over one denominator.
 abbrev pub SineOverOne : Type 0
@@ -29,10 +29,37 @@ abbrev pub CosineSandwich : Type 0
 CosineSandwich = (x : Fraction) (n m : ℕ) → IsFraction x → IsLongEnough x n → n ≤ m
     → (cosine_lower x n ≤ᶠ cosine_lower x m) × (cosine_upper x m ≤ᶠ cosine_upper x n)
 
--- Vanishing: the terms of the series fall below every fraction above 0.
+-- A number that is long enough stays so, and no long enough lower end is above a long enough upper end.
+abbrev pub LongEnoughStays : Type 0
+LongEnoughStays = (x : Fraction) (n m : ℕ) → IsLongEnough x n → n ≤ m → IsLongEnough x m
+
+abbrev pub SineInOrder : Type 0
+SineInOrder = (x : Fraction) (n m : ℕ) → IsFraction x → IsLongEnough x n → IsLongEnough x m → sine_lower x n ≤ᶠ sine_upper x m
+
+abbrev pub CosineInOrder : Type 0
+CosineInOrder = (x : Fraction) (n m : ℕ) → IsFraction x → IsLongEnough x n → IsLongEnough x m → cosine_lower x n ≤ᶠ cosine_upper x m
+
+-- Vanishing: from some degree on, the terms of the series are at most e, for every fraction e above 0.
 abbrev pub Vanishing : Type 0
-Vanishing = (z e : Fraction) → IsFraction z → IsFraction e → whole (pos 0) <ᶠ e
-    → (n : ℕ) × ((m : ℕ) → n ≤ m → term (abs_f z) (2 * m + 2) ≤ᶠ e)
+Vanishing = (z e : Fraction) → IsFraction z → whole (pos 0) <ᶠ e
+    → (n : ℕ) × ((k : ℕ) → n ≤ k → term (abs_f z) k ≤ᶠ e)
+
+-- Some n is long enough; the ends of n are no farther apart than the term that divides them; and so a value that is at
+-- least a and at most b has a ≤ b.
+abbrev pub LongEnoughExists : Type 0
+LongEnoughExists = (x : Fraction) → IsFraction x → (n : ℕ) × IsLongEnough x n
+
+abbrev pub SineNarrow : Type 0
+SineNarrow = (x : Fraction) (n : ℕ) → IsFraction x → (sine_upper x n -ᶠ sine_lower x n) ≤ᶠ term (abs_f x) (2 * n + 3)
+
+abbrev pub CosineNarrow : Type 0
+CosineNarrow = (x : Fraction) (n : ℕ) → IsFraction x → (cosine_upper x n -ᶠ cosine_lower x n) ≤ᶠ term (abs_f x) (2 * n + 2)
+
+abbrev pub SineAgrees : Type 0
+SineAgrees = (x a b : Fraction) → IsFraction x → SineIsAtLeast x a → SineIsAtMost x b → a ≤ᶠ b
+
+abbrev pub CosineAgrees : Type 0
+CosineAgrees = (x a b : Fraction) → IsFraction x → CosineIsAtLeast x a → CosineIsAtMost x b → a ≤ᶠ b
 
 -- Addition, with z = |x| + |y| and n + 1 ≥ z: off by at most 2 z^(2n+2) / (2n+2)!. Doubling is the case of x and x.
 abbrev pub SineAddition : Type 0

@@ -1,6 +1,6 @@
 -- Sine and cosine of a fraction, in radians, by the partial sums of their Maclaurin series. Any textbook of analysis
 -- has these series and shows what is used of them here: x^3/3! is added or taken off after x, and so on.
-use Rattle.std.specs.Prelude.{◌≡◌, ℕ, zero, suc, ◌+◌, ◌*◌, ◌^◌, ℤ, pos, neg_ℤ, ◌+ℤ◌, ◌*ℤ◌}
+use Rattle.std.specs.Prelude.{ℕ, zero, suc, ◌+◌, ◌*◌, ◌^◌, ℤ, pos, neg_ℤ, ◌+ℤ◌, ◌*ℤ◌}
 use Rattle.st_fraction.specs.Fraction.{Fraction, ◌≤ᶠ◌, over, whole, ◌+ᶠ◌, neg_f, ◌*ᶠ◌, least, greatest}
 
 -- n!
