@@ -1,5 +1,5 @@
--- Sine and cosine of a fraction, in radians, by the partial sums of their Maclaurin series. Any textbook of analysis
--- has these series and shows what is used of them here: x^3/3! is added or taken off after x, and so on.
+-- Sine and cosine of a fraction, in radians, by the partial sums of their Maclaurin series: NIST Digital Library of
+-- Mathematical Functions, 4.19.1 and 4.19.2, or any textbook of analysis.
 use Rattle.std.specs.Prelude.{ℕ, zero, suc, ◌+◌, ◌*◌, ◌^◌, ℤ, pos, neg_ℤ, ◌+ℤ◌, ◌*ℤ◌}
 use Rattle.st_fraction.specs.Fraction.{Fraction, ◌≤ᶠ◌, over, whole, ◌+ᶠ◌, neg_f, ◌*ᶠ◌, least, greatest}
 
