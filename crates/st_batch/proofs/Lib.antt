@@ -1,6 +1,8 @@
+pub mod CountLoop
 pub mod LineLaws
 pub mod Numbers
 pub mod PairLaws
+pub mod PairLoop
 pub mod ScanLaws
 pub mod TableLaws
 pub mod UtcFields

@@ -103,11 +103,15 @@ pairs_from stage [] = if is_closed stage then Some [] else None
 pairs_from stage (line ∷ lines) =
     step_of stage line >>= (λ s. pairs_from s.stage lines >>= (λ pairs. Some (with_pair s.pair pairs)))
 
--- whether each pair's date is later than the one before, and its count one more
+-- whether a pair's date is later than another's, and its count one more
+abbrev pub rises : LeapPair → LeapPair → Bool
+rises p q = int_lt p.from q.from && (q.count == p.count + 1)
+
+-- whether each pair rises from the one before
 abbrev pub is_rise : List LeapPair → Bool
 is_rise [] = true
 is_rise (p ∷ []) = true
-is_rise (p ∷ q ∷ pairs) = (int_lt p.from q.from && (q.count == p.count + 1)) && is_rise (q ∷ pairs)
+is_rise (p ∷ q ∷ pairs) = rises p q && is_rise (q ∷ pairs)
 
 -- whether the pair's count and date are in their ranges
 abbrev pub is_pair : LeapPair → Bool

@@ -2,6 +2,7 @@ pub mod LeapList
 pub mod LeapListMachine
 pub mod LeapSeconds
 pub mod Load
+pub mod Outcome
 pub mod ScanMachine
 pub mod Taken
 pub mod Texts

@@ -1,19 +1,42 @@
 //! The setup file: a table of leap seconds in the layout of `naif.tls`.
 
-ghost use Rattle.std.specs.Prelude.{◌≡◌, ◌≤◌, MatchOption, Some, None, IsTrue, length};
+ghost use Rattle.std.specs.Prelude.{◌≡◌, ◌≤◌, MatchOption, Some, None, IsTrue, IfOk, OnOk, IsErrOf, List, [], ◌++◌, length};
 ghost use Rattle.st_batch.specs.LeapListMachine as machine;
-ghost use Rattle.st_batch.specs.LeapListMachine.{step_of, stage_step, comma_place};
+ghost use Rattle.st_batch.specs.LeapListMachine.{step_of, stage_step, comma_place, pairs_from, with_pair};
+ghost use Rattle.st_batch.specs.LeapList.{HoldsTable};
+ghost use Rattle.st_batch.specs.declared.leap_seconds.LeapPair.{LeapPair};
+ghost use Rattle.st_text.specs.Lines.{lines_of};
 
-use crate::leap_seconds::LeapPair;
+use crate::leap_seconds::{LeapPair, is_table};
 use crate::scan::{after_blanks, after_mark, after_word, field};
-use st_dates::{FIRST, LAST, read_at_date};
+use st_dates::read_at_date;
+use st_decimal::OutOfMemory;
 use st_text::{is_blank, skip_blanks, split_line, without_cr};
+use std::alloc::Global;
 
 /// The variable that holds the table.
 const NAME: &[u8] = b"DELTET/DELTA_AT";
 
 /// The most bytes of a line.
 const MAX_LINE: usize = 1000;
+
+/// Why a file gave no table.
+#[derive(Clone, Copy, Debug, PartialEq, Eq)]
+pub enum TableFault {
+    /// The file holds no table of leap seconds in this layout.
+    NotTable,
+    OutOfMemory,
+}
+
+impl From<OutOfMemory> for TableFault {
+    ghost use Rattle.st_batch.specs.declared.leap_list.TableFault.TheVariants as fault;
+
+    ghost from_gives = { λ _ e. e ≡ fault.OutOfMemory };
+
+    fn from(_error: OutOfMemory) -> TableFault {
+        TableFault::OutOfMemory
+    }
+}
 
 /// The place of a line in the file.
 #[derive(Clone, Copy, PartialEq, Eq)]
@@ -115,7 +138,10 @@ fn pair_of_text(text: &[u8]) -> Option<LeapPair>
     let (count, rest) = field(text, comma_place(text), b',')?;
     let date = after_word(rest, b" @")?;
     match read_at_date(date) {
-        Ok(from) => Some(LeapPair { count, from }),
+        Ok(from) => Some(LeapPair {
+            count: count as u32,
+            from,
+        }),
         Err(_) => None,
     }
 }
@@ -189,4 +215,64 @@ fn begins_text(line: &[u8]) -> bool
     ensures { result ≡ machine.begins_text line.now }
 {
     line == b"\\begintext".as_slice()
+}
+
+/// The table of leap seconds that a setup file holds.
+///
+/// # Errors
+///
+/// `NotTable` where the file holds none in this layout, and want of memory.
+pub fn read_table(alloc: Global, bytes: &[u8]) -> Result<Vec<LeapPair>, TableFault>
+    ensures ok { IfOk result (λ table. HoldsTable bytes.now table.items) }
+    ensures not_table { IsErrOf result TableFault.NotTable
+        → (table : List LeapPair) → HoldsTable bytes.now table → ⊥ }
+{
+    let pairs = read_pairs(alloc, bytes)?;
+    if is_table(pairs.as_slice()) {
+        Ok(pairs)
+    } else {
+        Err(TableFault::NotTable)
+    }
+}
+
+/// The pairs of the file's lines.
+fn read_pairs(alloc: Global, bytes: &[u8]) -> Result<Vec<LeapPair>, TableFault>
+    ensures ok { IfOk result (λ pairs. pairs_from Stage.Commentary (lines_of bytes.now) ≡ Some pairs.items) }
+    ensures not_table { IsErrOf result TableFault.NotTable
+        → pairs_from Stage.Commentary (lines_of bytes.now) ≡ None }
+{
+    let mut pairs = Vec::new(alloc);
+    let mut stage = Stage::Commentary;
+    let mut rest = bytes;
+    while !rest.is_empty() {
+        let (line, after) = split_line(rest);
+        let Some(step) = read_line(stage, without_cr(line)) else {
+            return Err(TableFault::NotTable);
+        };
+        add(&mut pairs, step.pair)?;
+        stage = step.stage;
+        rest = after;
+    }
+    if is_closed(stage) {
+        Ok(pairs)
+    } else {
+        Err(TableFault::NotTable)
+    }
+}
+
+/// Appends a pair, where there is one.
+fn add(pairs: &mut Vec<LeapPair>, pair: Option<LeapPair>) -> Result<(), OutOfMemory>
+    ensures { OnOk result (pairs.new.items ≡ pairs.old.items ++ with_pair pair []) }
+{
+    if let Some(pair) = pair {
+        pairs.push(pair)?;
+    }
+    Ok(())
+}
+
+/// Whether the list ends before this stage.
+fn is_closed(stage: Stage) -> bool
+    ensures { result ≡ machine.is_closed stage }
+{
+    matches!(stage, Stage::After | Stage::Rest)
 }

@@ -1,10 +1,115 @@
-//! Leap seconds: the table and what a label is in TAI.
+//! Leap seconds: the rules of a table, and what a UTC label is in TAI.
+
+ghost use Rattle.std.specs.Prelude.{◌≡◌, ◌≤ℤ◌, neg_ℤ, pos};
+ghost use Rattle.std.specs.List.{list_all};
+ghost use Rattle.st_batch.specs.LeapListMachine as machine;
+ghost use Rattle.st_batch.specs.LeapSeconds.{IsLeapTable, IsOfDay};
+ghost use Rattle.st_batch.specs.LeapSeconds as table;
+ghost use Rattle.st_dates.specs.Label.{formal};
+ghost use Rattle.st_dates.specs.declared.label.TheConstants as range;
+
+use st_dates::{FIRST, LAST, Label, formal_of};
+
+/// The units of 10^-18 s in a second.
+const SECOND: i128 = 1_000_000_000_000_000_000;
+
+/// The most pairs of a table.
+const MAX_PAIRS: usize = 1000;
+
+/// The greatest count.
+const MAX_COUNT: u32 = 1000;
 
 /// From its date on, TAI is `count` seconds ahead of UTC.
 #[derive(Clone, Copy, Debug, PartialEq, Eq)]
 pub struct LeapPair {
     /// TAI minus UTC, in seconds.
-    pub count: u64,
+    pub count: u32,
     /// The formal value of the date's midnight, in units of 10^-18 s past J2000.
     pub from: i128,
+}
+
+/// Whether the pairs are 1 to 1,000, in their ranges, and rise: each date later than the one before, and each
+/// count one more.
+#[tactic(auto, unfolding(crate::specs::LeapListMachine::is_table))]
+pub fn is_table(pairs: &[LeapPair]) -> bool
+    ensures { result ≡ machine.is_table pairs.now }
+{
+    1 <= pairs.len() && pairs.len() <= MAX_PAIRS && are_in_range(pairs) && is_rise(pairs)
+}
+
+fn are_in_range(pairs: &[LeapPair]) -> bool
+    ensures { result ≡ list_all machine.is_pair pairs.now }
+{
+    pairs.iter().all(|pair| is_pair(*pair))
+}
+
+fn is_pair(pair: LeapPair) -> bool
+    ensures { result ≡ machine.is_pair pair }
+{
+    pair.count <= MAX_COUNT && FIRST <= pair.from && pair.from <= LAST
+}
+
+fn is_rise(pairs: &[LeapPair]) -> bool
+    ensures { result ≡ machine.is_rise pairs.now }
+{
+    let mut left = pairs;
+    while let [first, rest @ ..] = left {
+        if let [second, ..] = rest {
+            if !rises(*first, *second) {
+                return false;
+            }
+        }
+        left = rest;
+    }
+    true
+}
+
+fn rises(first: LeapPair, second: LeapPair) -> bool
+    ensures { result ≡ machine.rises first second }
+{
+    first.from < second.from && u64::from(second.count) == u64::from(first.count) + 1
+}
+
+/// The count before the first pair: the first count less one.
+fn count_before(pairs: &[LeapPair]) -> i128
+    requires { IsLeapTable pairs.now }
+    ensures value { result ≡ table.count_before pairs.now }
+    ensures from { neg_ℤ (pos 1) ≤ℤ result }
+    ensures to { result ≤ℤ pos 1000 }
+{
+    match pairs {
+        [] => 0,
+        [first, ..] => i128::from(first.count) - 1,
+    }
+}
+
+/// TAI minus UTC on the day of this midnight, in seconds.
+fn count_on(pairs: &[LeapPair], midnight: i128) -> i128
+    requires { IsLeapTable pairs.now }
+    ensures value { result ≡ table.count_on pairs.now midnight }
+    ensures from { neg_ℤ (pos 1) ≤ℤ result }
+    ensures to { result ≤ℤ pos 1000 }
+{
+    let mut count = count_before(pairs);
+    for pair in pairs {
+        if pair.from <= midnight {
+            count = i128::from(pair.count);
+        }
+    }
+    count
+}
+
+/// TAI of a UTC label in units of 10^-18 s past J2000: its formal value and the count of its day.
+pub fn tai_of(pairs: &[LeapPair], label: Label) -> i128
+    requires table { IsLeapTable pairs.now }
+    requires from { range.FIRST ≤ℤ formal label }
+    requires to { formal label ≤ℤ range.LAST }
+    requires of_day { IsOfDay label }
+    ensures { result ≡ table.tai_of pairs.now label }
+{
+    let midnight = formal_of(Label {
+        day: label.day,
+        of_day: 0,
+    });
+    formal_of(label) + count_on(pairs, midnight) * SECOND
 }

@@ -1,6 +1,7 @@
 //! The session of `chronos`: from its words to its output.
 #![tactic(auto)]
 
+mod answer;
 mod fault;
 mod leap_list;
 mod leap_seconds;
