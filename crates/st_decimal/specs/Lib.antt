@@ -1,1 +1,4 @@
 pub mod Fixed
+pub mod Number
+pub mod NumberMachine
+pub mod Value

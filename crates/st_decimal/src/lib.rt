@@ -7,9 +7,12 @@ mod kernel_text;
 mod line;
 mod memory;
 mod name_list;
+mod number;
+mod place;
 
 pub use fixed::put_fixed;
 pub use kernel_text::KText;
 pub use line::Line;
 pub use memory::OutOfMemory;
 pub use name_list::NameList;
+pub use number::{Dec, DecFault};
