@@ -1,4 +1,5 @@
 pub mod CalendarLaws
+pub mod CivilLaws
 pub mod DateLaws
 pub mod DayLemmas
 pub mod Forms

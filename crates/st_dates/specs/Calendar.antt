@@ -1,6 +1,6 @@
 -- The Gregorian calendar, by the lengths of its years and months. Sources: the calendar as decreed in
 -- 1582, carried back before that year; NAIF's Time Required Reading counts days from 2000-01-01.
-use Rattle.std.specs.Prelude.{ℕ, zero, suc, ◌+◌, ◌-◌, ◌%◌, ◌≤◌, Bool, not, ◌&&◌, ◌||◌, ◌==◌, if◌then◌else◌, ℤ, pos, ◌-ℤ◌}
+use Rattle.std.specs.Prelude.{ℕ, zero, suc, ◌+◌, ◌-◌, ◌%◌, ◌≤◌, Bool, not, ◌&&◌, ◌||◌, ◌==◌, if◌then◌else◌, ℤ, pos, ◌+ℤ◌, ◌-ℤ◌}
 
 -- every fourth year is a leap year, but of the centuries only every fourth
 abbrev pub is_leap : ℕ → Bool
@@ -40,3 +40,12 @@ year_start y = pos (days_before_year y) -ℤ pos (days_before_year 2000)
 abbrev pub day_number : ℕ → ℕ → ℕ → ℤ
 day_number y m d =
     pos (days_before_year y + days_of_months y (m - 1) + (d - 1)) -ℤ pos (days_before_year 2000)
+
+-- the year has a day at this place, from 1
+pub record IsDayOfYear (y place : ℕ) : Type 0 where
+  pub from : 1 ≤ place
+  pub to : place ≤ year_length y
+
+-- the day number of the day at a place of a year
+abbrev pub number_in_year : ℕ → ℕ → ℤ
+number_in_year y place = year_start y +ℤ pos (place - 1)

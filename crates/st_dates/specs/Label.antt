@@ -1,5 +1,5 @@
 -- Labels and their formal count. Source: Time Required Reading, "The J2000 Epoch" and "Calendars and Spacecraft Time".
-use Rattle.std.specs.Prelude.{ℤ, pos, neg_ℤ, ◌+ℤ◌, ◌-ℤ◌, ◌*ℤ◌, ◌≤ℤ◌}
+use Rattle.std.specs.Prelude.{ℤ, pos, neg_ℤ, ◌+ℤ◌, ◌-ℤ◌, ◌*ℤ◌, ◌<ℤ◌, ◌≤ℤ◌}
 use Rattle.st_dates.specs.declared.label.Label.{Label}
 
 -- seconds of formal counts as units of 10^-18 s
@@ -16,3 +16,8 @@ abbrev pub IsFormal : ℤ → Type 0
 IsFormal z =
     (neg_ℤ (pos 3_155_900_000_000_000_000_000_000_000) ≤ℤ z)
     × (z ≤ℤ pos 3_155_900_000_000_000_000_000_000_000)
+
+-- a label of a day of 86,400 s: what has passed of it is from 0 to less than that
+pub record IsPlainLabel (label : Label) : Type 0 where
+  pub from : pos 0 ≤ℤ label.of_day
+  pub to : label.of_day <ℤ units (pos 86_400)

@@ -27,3 +27,13 @@ pub record NamesMonth (text : List ℕ) (m : ℕ) : Type 0 where
   pub month_from : 1 ≤ m
   pub month_to : m ≤ 12
   pub letters : AreSameLetters text (name_of_month m) ⊎ AreSameLetters text (take 3 (name_of_month m))
+
+-- from Sunday to Saturday
+abbrev pub weekday_names : List (List ℕ)
+weekday_names =
+    codes "SUNDAY" ∷ codes "MONDAY" ∷ codes "TUESDAY" ∷ codes "WEDNESDAY" ∷ codes "THURSDAY"
+    ∷ codes "FRIDAY" ∷ codes "SATURDAY" ∷ []
+
+-- the full name of a weekday from 0 for Sunday to 6
+abbrev pub name_of_weekday : ℕ → List ℕ
+name_of_weekday w = slice_index_or weekday_names w []

@@ -5,6 +5,7 @@
 #![tactic(auto)]
 
 mod at_date;
+mod civil;
 mod day;
 mod fault;
 mod label;
@@ -13,8 +14,9 @@ mod scan;
 mod system;
 
 pub use at_date::read_at_date;
-pub use day::day_of;
+pub use civil::{Civil, civil_of};
+pub use day::{day_of, day_of_doy};
 pub use fault::DateFault;
-pub use label::{FIRST, LAST, Label, formal_of};
-pub use names::{month_name, month_of};
+pub use label::{FIRST, LAST, Label, formal_of, label_of};
+pub use names::{month_name, month_of, weekday_name};
 pub use system::System;

@@ -1,5 +1,5 @@
 ghost use Rattle.std.specs.Prelude.{◌≡◌, ℕ, ◌≤◌, ◌<◌, IfSome, Some, length};
-ghost use Rattle.st_dates.specs.Names.{NamesMonth, name_of_month, lowered};
+ghost use Rattle.st_dates.specs.Names.{NamesMonth, name_of_month, name_of_weekday, lowered};
 ghost use Rattle.st_dates.specs.NamesMachine.{is_name, month_named};
 
 /// The month, from 1 to 12, that a text names by its full name or by the first three letters of it,
@@ -52,6 +52,22 @@ pub fn month_name(month: u8) -> &'static str
     }
 }
 
+/// The full name of a weekday from 0 for Sunday to 6 for Saturday, in upper case.
+pub fn weekday_name(weekday: u8) -> &'static str
+    requires { weekday ≤ 6 }
+    ensures { result.now ≡ name_of_weekday weekday }
+{
+    match weekday {
+        0 => "SUNDAY",
+        1 => "MONDAY",
+        2 => "TUESDAY",
+        3 => "WEDNESDAY",
+        4 => "THURSDAY",
+        5 => "FRIDAY",
+        _ => "SATURDAY",
+    }
+}
+
 #[cfg(test)]
 mod tests {
     use super::*;
@@ -60,6 +76,8 @@ mod tests {
     fn names_months(rt: HostRuntime) {
         assert_eq!(rt; month_name(1), "JANUARY");
         assert_eq!(rt; month_name(12), "DECEMBER");
+        assert_eq!(rt; weekday_name(0), "SUNDAY");
+        assert_eq!(rt; weekday_name(6), "SATURDAY");
         let table: [(&[u8], Option<u8>); 8] = [
             (b"JANUARY", Some(1)),
             (b"may", Some(5)),
