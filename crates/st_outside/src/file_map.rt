@@ -1,6 +1,6 @@
 //! Files in memory, by their names.
 
-ghost use Rattle.std.specs.Prelude.{◌≡◌, ◌<◌, [], None, Some, OnOk, OnErr, MatchOption, bytes_eq, position};
+ghost use Rattle.std.specs.Prelude.{◌≡◌, [], None, Some, OnOk, OnErr, MatchOption, bytes_eq, position};
 ghost use Rattle.st_outside.specs.Entries.{Puts, HasDistinctNames, bytes_of, bytes_at};
 
 use crate::bytes::Bytes;

@@ -23,7 +23,8 @@ pub struct MemFiles {
 impl MemFiles {
     ghost use Rattle.st_outside.specs.MemFiles.{entries_of, is_open, misses_of, taken_of, calls_of};
 
-    /// These files, of which none is open. `failing` lists the opens and reads, counted together from 1, that fail.
+    /// These files, of which none is open. `failing` lists the opens and reads, counted together from 1, that
+    /// fail.
     pub fn new(entries: FileMap, failing: Vec<u32>) -> MemFiles
         ensures map { entries_of result ≡ entries }
         ensures closed { is_open result ≡ false }
@@ -65,10 +66,10 @@ impl Files for MemFiles {
         ensures faults_later { (calls_of self.old).failed ≤ (calls_of self.new).failed }
 
         ensures listed { IsErrOf result OpenFault.Failed ↔ IsTrue (fails_next (calls_of self.old)) }
-        ensures not_found { IsErrOf result OpenFault.Missing
-            ↔ ((fails_next (calls_of self.old) ≡ false) × (bytes_of name.now (entries_of self.old) ≡ None)) }
-        ensures found { IsOk result
-            ↔ ((fails_next (calls_of self.old) ≡ false) × IsSome (bytes_of name.now (entries_of self.old))) }
+        ensures not_found { IsErrOf result OpenFault.Missing ↔ ((fails_next (calls_of self.old) ≡ false)
+            × (bytes_of name.now (entries_of self.old) ≡ None)) }
+        ensures found { IsOk result ↔ ((fails_next (calls_of self.old) ≡ false)
+            × IsSome (bytes_of name.now (entries_of self.old))) }
         ensures missed { IsErrOf result OpenFault.Missing → Rose (misses_of self.old) (misses_of self.new) }
         ensures counted { Counted (calls_of self.old) (calls_of self.new) }
     {

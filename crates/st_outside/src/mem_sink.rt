@@ -21,8 +21,8 @@ pub struct MemSink {
 impl MemSink {
     ghost use Rattle.st_outside.specs.MemSink.{taken_by, calls_of};
 
-    /// A sink that has taken nothing yet and keeps its bytes in memory from `alloc`. `failing` lists the writes,
-    /// counted from 1, that fail.
+    /// A sink that has taken nothing yet and keeps its bytes in memory from `alloc`. `failing` lists the
+    /// writes, counted from 1, that fail.
     pub fn new(alloc: Global, failing: Vec<u32>) -> MemSink
         ensures taken { taken_by result ≡ [] }
         ensures calls { IsFresh (calls_of result) failing.items }

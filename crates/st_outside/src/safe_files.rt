@@ -74,7 +74,8 @@ impl Files for SafeFiles {
             ≡ raised_if (is_none (bytes_of name.now (entries_of self.old))) (misses_of self.old) }
 
         ensures found { IsOk result ↔ IsSome (bytes_of name.now (entries_of self.old)) }
-        ensures not_found { IsErrOf result OpenFault.Missing ↔ (bytes_of name.now (entries_of self.old) ≡ None) }
+        ensures not_found { IsErrOf result OpenFault.Missing
+            ↔ (bytes_of name.now (entries_of self.old) ≡ None) }
     {
         self.reading = None;
         match self.entries.place_of(name) {
