@@ -1,9 +1,10 @@
-pub mod CountLoop
 pub mod LineLaws
 pub mod Numbers
 pub mod PairLaws
 pub mod PairLoop
+pub mod RunLaws
 pub mod ScanLaws
 pub mod TableLaws
 pub mod UtcFields
 pub mod UtcLaws
+pub mod WordsLaws

@@ -227,11 +227,10 @@ pub fn read_table(alloc: Global, bytes: &[u8]) -> Result<Vec<LeapPair>, TableFau
     ensures not_table { IsErrOf result TableFault.NotTable
         → (table : List LeapPair) → HoldsTable bytes.now table → ⊥ }
 {
-    let pairs = read_pairs(alloc, bytes)?;
-    if is_table(pairs.as_slice()) {
-        Ok(pairs)
-    } else {
-        Err(TableFault::NotTable)
+    match read_pairs(alloc, bytes) {
+        Ok(pairs) if is_table(pairs.as_slice()) => Ok(pairs),
+        Ok(_) => Err(TableFault::NotTable),
+        Err(fault) => Err(fault),
     }
 }
 
