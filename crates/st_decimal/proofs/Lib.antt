@@ -1,2 +1,4 @@
 mod FixedExamples
 pub mod FixedDecimals
+pub mod ZeroDigits
+pub mod ValueCode

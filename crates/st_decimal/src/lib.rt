@@ -8,7 +8,10 @@ mod line;
 mod memory;
 mod name_list;
 mod number;
+mod pieces;
 mod place;
+mod value;
+mod zeros;
 
 pub use fixed::put_fixed;
 pub use kernel_text::KText;
