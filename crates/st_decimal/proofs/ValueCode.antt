@@ -22,7 +22,7 @@ front_digits xs ys h = and_left (are_digits xs) (are_digits ys) (sym (list_all-a
 pub back_digits : (xs ys : List ℕ) → are_digits (xs ++ ys) ≡ true → are_digits ys ≡ true
 back_digits xs ys h = and_right (are_digits xs) (are_digits ys) (sym (list_all-append is_ascii_digit xs ys) ∙ h)
 
-both_true : (a b : Bool) → a ≡ true → b ≡ true → (a && b) ≡ true
+pub both_true : (a b : Bool) → a ≡ true → b ≡ true → (a && b) ≡ true
 both_true true b p q = q
 both_true false b p q = absurd (cc)
 

@@ -10,6 +10,7 @@ mod name_list;
 mod number;
 mod pieces;
 mod place;
+mod read;
 mod value;
 mod zeros;
 
@@ -19,3 +20,4 @@ pub use line::Line;
 pub use memory::OutOfMemory;
 pub use name_list::NameList;
 pub use number::{Dec, DecFault};
+pub use read::read_dec;

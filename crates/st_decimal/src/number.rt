@@ -1,7 +1,5 @@
 //! Exact decimals, and their texts as kernels write them.
 
-ghost use Rattle.std.specs.Prelude.{◌≡◌, ◌≤◌, ℤ, pos, ◌+ℤ◌, ◌-ℤ◌, length};
-
 use thiserror::Error;
 
 /// An exact decimal, `digits * 10^tens`.
