@@ -8,7 +8,6 @@ use Rattle.std.proofs.lemmas.Bool.{cases_Bool}
 use Rattle.std.proofs.lemmas.Bool.Decides.{nat_tests}
 use Rattle.st_text.specs.Bytes.{is_blank, are_blanks, are_digits, number_of}
 use Rattle.st_text.specs.Lines.{skip_blanks}
-use Rattle.st_dates.specs.AtDate.{ReadsAtDate, Written, named}
 use Rattle.st_batch.specs.declared.leap_list.Stage.{Stage}
 use Rattle.st_batch.specs.declared.leap_list.Stage.TheVariants.{Listing, After}
 use Rattle.st_batch.specs.declared.leap_list.Step.{Step}
@@ -17,7 +16,8 @@ use Rattle.st_batch.specs.LeapList.{AreSomeBlanks, SpellsPair, OpensList, EndsWo
 use Rattle.st_batch.specs.LeapListMachine.{closes, pair_of_text, pair_line, after_opening, ends_word, assigns_table}
 use Rattle.st_batch.specs.ScanMachine.{after_mark, after_word, after_blanks}
 use Rattle.st_batch.proofs.ScanLaws.{and_then-some, some-same, mark-read}
-use Rattle.st_batch.proofs.PairLaws.{and-left, and-right, after_word-spelled, after_word-read, pair-spelled, pair-read}
+use Rattle.st_batch.proofs.Tests.{and-left, and-right}
+use Rattle.st_batch.proofs.PairLaws.{after_word-spelled, after_word-read, pair-spelled, pair-read}
 
 -- the text begins with a byte that is no blank
 pub data IsSolid : List ℕ → Type 0 where
@@ -136,11 +136,11 @@ digits-no_close front run low h =
 
 -- a pair ends with a digit, and so not with `)`
 pair-no_close : (pair : LeapPair) (text : List ℕ) → SpellsPair pair text → closes text ≡ false
-pair-no_close pair text (count, date, low, high, digits, number, (named year name day, n, spells, of_day, at, range), whole) =
-    let front = count ++ (codes ", @" ++ (year ++ (45 ∷ (name ++ (45 ∷ []))))) in
-    let parts : front ++ day ≡ count ++ (codes ", @" ++ (year ++ (45 ∷ (name ++ (45 ∷ day))))) = simp append_assoc in
-    let same : text ≡ front ++ day = whole ∙ ap (λ (t : List ℕ). count ++ (codes ", @" ++ t)) spells.whole ∙ sym parts in
-    rw same (digits-no_close front day spells.parts.2.at_least spells.parts.2.digits)
+pair-no_close pair text (count, date, low, high, digits, number, d, whole) =
+    let front = count ++ (codes ", @" ++ (d.year ++ (45 ∷ (d.name ++ (45 ∷ []))))) in
+    let parts : front ++ d.day ≡ count ++ (codes ", @" ++ (d.year ++ (45 ∷ (d.name ++ (45 ∷ d.day))))) = simp append_assoc in
+    let same : text ≡ front ++ d.day = whole ∙ ap (λ (t : List ℕ). count ++ (codes ", @" ++ t)) d.whole ∙ sym parts in
+    rw same (digits-no_close front d.day d.parts.2.at_least d.parts.2.digits)
 
 -- a pair begins with a digit
 pair-solid : (pair : LeapPair) (text : List ℕ) → SpellsPair pair text → IsSolid text

@@ -16,7 +16,7 @@ use Rattle.st_batch.specs.LeapSeconds.{Rise, AreInRange, IsLeapTable}
 use Rattle.st_batch.specs.LeapList.{AreSomeBlanks, SpellsPair, OpensList, SpellsPairs, SpellsList, AssignsTable, AreOther, Lack, AreShort, EndsData, HoldsTable}
 use Rattle.st_batch.specs.LeapListMachine.{passed, pair_line, after_opening, assigns_table, begins_data, begins_text, stage_step, step_of, with_pair, is_closed, pairs_from, is_pair, is_rise, is_table, table_of}
 use Rattle.st_batch.proofs.ScanLaws.{and_then-some, some-same}
-use Rattle.st_batch.proofs.PairLaws.{and-left, and-right}
+use Rattle.st_batch.proofs.Tests.{and-left, and-right}
 use Rattle.st_batch.proofs.LineLaws.{ReadsLine, inner, last, line-spelled, last-spelled, line-read, opening-spelled, opening-read, opening-assigns, assigns-spelled, assigns-read}
 
 -- a test that no fact meets fails, and one that fails meets no fact

@@ -8,7 +8,7 @@ use Rattle.st_batch.specs.Words.{AskFor}
 use Rattle.st_batch.specs.Outcome.{AskForNone}
 use Rattle.st_batch.specs.WordsMachine.{are_options, are_systems, is_name, job_of}
 use Rattle.st_batch.proofs.ScanLaws.{some-same}
-use Rattle.st_batch.proofs.PairLaws.{and-left, and-right}
+use Rattle.st_batch.proofs.Tests.{and-left, and-right}
 
 name-fits : (name : List ℕ) → 1 ≤ length name → length name ≤ 255 → is_name name ≡ true
 name-fits name low high = grind (arith, nat_tests)

@@ -2,6 +2,7 @@ pub mod Causes
 pub mod LeapList
 pub mod LeapListMachine
 pub mod LeapSeconds
+pub mod ListDateMachine
 pub mod Load
 pub mod Outcome
 pub mod Prepared

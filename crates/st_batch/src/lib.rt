@@ -8,6 +8,7 @@ mod answer;
 mod fault;
 mod leap_list;
 mod leap_seconds;
+mod list_date;
 mod load;
 mod scan;
 mod setup;
