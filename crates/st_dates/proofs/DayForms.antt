@@ -1,5 +1,5 @@
 -- A day is read from a text exactly where the text begins with one of its forms.
-use Rattle.std.proofs.Common.{◌≡◌, ℕ, true, false, ◌==◌, ◌≢◌, ◌≤◌, inl, inr, refl, sym, ap, ◌∙◌, subst, arith, List, [], ◌∷◌, ◌++◌, length, ℤ, Option, Some, None, append_assoc}
+use Rattle.std.proofs.Common.{◌≡◌, ℕ, true, ◌==◌, inl, inr, refl, sym, ap, ◌∙◌, subst, arith, List, ◌∷◌, ◌++◌, length, ℤ, Option, Some, None, append_assoc}
 use Rattle.std.proofs.lemmas.Bool.{cases_Bool}
 use Rattle.std.proofs.lemmas.Bool.Decides.{nat_tests}
 use Rattle.std.specs.Char.{is_ascii_digit}

@@ -1,5 +1,5 @@
 -- A text that was read to a time is one of its forms.
-use Rattle.std.proofs.Common.{◌≡◌, ℕ, true, false, ◌==◌, ◌&&◌, ◌||◌, ◌≤◌, ◌+◌, ◌-◌, ◌*◌, ◌^◌, ◌⊎◌, nat_le, inl, inr, refl, sym, ap, ◌∙◌, subst, arith, List, [], ◌∷◌, ◌++◌, length, Option, Some, None}
+use Rattle.std.proofs.Common.{◌≡◌, ℕ, true, ◌==◌, ◌&&◌, ◌||◌, ◌+◌, ◌-◌, ◌*◌, ◌^◌, ◌⊎◌, nat_le, inl, inr, refl, sym, ap, ◌∙◌, arith, List, [], ◌∷◌, ◌++◌, length, Option, Some}
 use Rattle.std.proofs.lemmas.Bool.{cases_Bool, or_cases}
 use Rattle.std.proofs.lemmas.Bool.Decides.{nat_tests}
 use Rattle.std.proofs.lemmas.List.{append-nil}
@@ -8,7 +8,7 @@ use Rattle.std.specs.Prelude.{codes}
 use Rattle.st_text.specs.Bytes.{number_of}
 use Rattle.st_dates.specs.DayText.{AreDigits}
 use Rattle.st_dates.specs.ScanMachine.{◌>>=◌, digits, past_digits, after, is_digits}
-use Rattle.st_dates.specs.TimeText.{Clock, minutes, seconds, decimals, clock_spelling, IsField, AreClockParts, units_of, clock_units, IsMark, TimeText, midnight, after_mark, time_spelling, AreTimeParts, time_units}
+use Rattle.st_dates.specs.TimeText.{Clock, minutes, seconds, decimals, clock_spelling, IsField, AreClockParts, clock_units, IsMark, TimeText, midnight, after_mark, time_spelling, AreTimeParts, time_units}
 use Rattle.st_dates.specs.TimeTextMachine.{field, decimal_units, second_units, clock_of, past_slash, past_mark, time_of_text}
 use Rattle.st_dates.proofs.Runs.{joined, head_passes, tail_passes}
 use Rattle.st_dates.proofs.Scans.{some_same, bound, after_is, digits_tested}
