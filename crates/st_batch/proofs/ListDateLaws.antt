@@ -34,11 +34,11 @@ found number from at range =
 in_range : (number from : ℤ) → midnight_in_range number ≡ Some from → (from ≡ moment number 0) × IsInRange from
 in_range number from e =
     elim (cases_Bool (int_le FIRST (moment number 0) && int_le (moment number 0) LAST)) [
-      inl y ↦
-        let same : moment number 0 ≡ from = some-same _ from (rw y at e) in
-        let P : ℤ → Type 0 = λ z. IsInRange z in
-        (sym same, subst P same (passed FIRST LAST (moment number 0) y))
-    | inr n ↦ let v = rw n at e in absurd cc
+      | inl y ↦
+          let same : moment number 0 ≡ from = some-same _ from (rw y at e) in
+          let P : ℤ → Type 0 = λ z. IsInRange z in
+          (sym same, subst P same (passed FIRST LAST (moment number 0) y))
+      | inr n ↦ let v = rw n at e in absurd cc
     ]
 
 -- one or two digits pass the test of them, and what passes is that
@@ -68,7 +68,7 @@ list_date-spelled text from d =
     let front = leading-at is_no_dash d.name (45 ∷ d.day) letters refl in
     let back = behind-at is_no_dash d.name (45 ∷ d.day) letters refl in
     let number : calendar_day (number_of d.year) month (number_of d.day) ≡ Some d.number =
-      there (number_of d.year) month (number_of d.day) d.exists.2.0 ∙ ap Some (sym d.exists.2.1) in
+    there (number_of d.year) month (number_of d.day) d.exists.2.0 ∙ ap Some (sym d.exists.2.1) in
     rw d.whole (rw (field-spelled 4 45 d.year (d.name ++ (45 ∷ d.day)) year)
     (rw front (rw (names.only d.name month d.exists.1) (rw back
     (rw (day-passes d.day d.parts.2) (rw number (found d.number from d.at d.in_range)))))))
@@ -83,21 +83,21 @@ list_date-read text from e =
     let m = names.names (leading is_no_dash a.0.1) b.0 b.1 in
     let mark = mark-read 45 (behind is_no_dash a.0.1) c.0 c.1 in
     elim (cases_Bool (is_day c.0)) [
-      inl p ↦
-        let d = and_then-some midnight_in_range (calendar_day a.0.0 b.0 (number_of c.0)) from (rw p at c.2) in
-        let exists = there_only a.0.0 b.0 (number_of c.0) d.0 d.1 in
-        let range = in_range d.0 from d.2 in
-        let P : ℕ → Type 0 = λ n. IsCalendarDay n b.0 (number_of c.0) × (d.0 ≡ day_number n b.0 (number_of c.0)) in
-        record {
-          year = y.0;
-          name = leading is_no_dash a.0.1;
-          day = c.0;
-          number = d.0;
-          parts = (record { digits = y.1.digits; at_least = omega (arith, y.1.long); at_most = omega (arith, y.1.long) }, (b.0, m), passes-day c.0 p);
-          exists = (b.0, m, subst P y.3 exists);
-          at = range.0;
-          in_range = range.1;
-          whole = y.2 ∙ ap (λ (t : List ℕ). y.0 ++ (45 ∷ t)) (sym (joined is_no_dash a.0.1) ∙ ap (λ (t : List ℕ). leading is_no_dash a.0.1 ++ t) mark);
-        }
-    | inr n ↦ let v = rw n at c.2 in absurd cc
+      | inl p ↦
+          let d = and_then-some midnight_in_range (calendar_day a.0.0 b.0 (number_of c.0)) from (rw p at c.2) in
+          let exists = there_only a.0.0 b.0 (number_of c.0) d.0 d.1 in
+          let range = in_range d.0 from d.2 in
+          let P : ℕ → Type 0 = λ n. IsCalendarDay n b.0 (number_of c.0) × (d.0 ≡ day_number n b.0 (number_of c.0)) in
+          record {
+            year = y.0;
+            name = leading is_no_dash a.0.1;
+            day = c.0;
+            number = d.0;
+            parts = (record { digits = y.1.digits; at_least = omega (arith, y.1.long); at_most = omega (arith, y.1.long) }, (b.0, m), passes-day c.0 p);
+            exists = (b.0, m, subst P y.3 exists);
+            at = range.0;
+            in_range = range.1;
+            whole = y.2 ∙ ap (λ (t : List ℕ). y.0 ++ (45 ∷ t)) (sym (joined is_no_dash a.0.1) ∙ ap (λ (t : List ℕ). leading is_no_dash a.0.1 ++ t) mark);
+          }
+      | inr n ↦ let v = rw n at c.2 in absurd cc
     ]

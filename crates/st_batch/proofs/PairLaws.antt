@@ -66,12 +66,12 @@ pub after_word-read : (word text rest : List ℕ) → after_word word text ≡ S
 unfolding after_word
 after_word-read word text rest e =
     elim (cases_Bool (bytes_eq word (take (length word) text))) [
-      inl y ↦
-        let v = rw y at e in
-        let front : word ≡ take (length word) text = (bytes_eq-Decides word (take (length word) text)).0 y in
-        let back : drop (length word) text ≡ rest = some-same _ rest v in
-        sym (take-append-drop (length word) text) ∙ ap (λ (t : List ℕ). t ++ drop (length word) text) (sym front) ∙ ap (λ (t : List ℕ). word ++ t) back
-    | inr n ↦ let v = rw n at e in absurd cc
+      | inl y ↦
+          let v = rw y at e in
+          let front : word ≡ take (length word) text = (bytes_eq-Decides word (take (length word) text)).0 y in
+          let back : drop (length word) text ≡ rest = some-same _ rest v in
+          sym (take-append-drop (length word) text) ∙ ap (λ (t : List ℕ). t ++ drop (length word) text) (sym front) ∙ ap (λ (t : List ℕ). word ++ t) back
+      | inr n ↦ let v = rw n at e in absurd cc
     ]
 
 -- a pair is its count and its date

@@ -196,8 +196,8 @@ may-answer table line = by (utc_of_text line) refl
     by : (o : Option Label) → utc_of_text line ≡ o → (answer : Answer) × MayAnswer table line answer
     by None e = (Refused line_fault.BadTime, λ label h. let t = utc_laws.only line label h in absurd cc)
     by (Some label) e =
-      let m = truncated (tai_of table label) in
-      (Text (fixed m.0 6), (label, utc_laws.reads line label e, (m.0, m.1, refl)))
+        let m = truncated (tai_of table label) in
+        (Text (fixed m.0 6), (label, utc_laws.reads line label e, (m.0, m.1, refl)))
 
 -- of a file that was found
 file-output : (Fault : Type 0) (words : List (List ℕ)) (files : Entries) (name time bytes : List ℕ) → AskFor words name time → bytes_of name files ≡ Some bytes
@@ -208,8 +208,8 @@ file-output Fault words files name time bytes asked has (inr few) = by (table_of
     by : (o : Option (List LeapPair)) → table_of bytes ≡ o → SomeOutput Fault words files
     by None e = setup-output Fault words files name time line_fault.NotBuilt asked (bytes, has, few, none-held bytes e)
     by (Some table) e =
-      let a = may-answer table time in
-      line-output Fault words files name time table a.0 asked (bytes, has, few, table_laws.reads bytes table e) a.1
+        let a = may-answer table time in
+        line-output Fault words files name time table a.0 asked (bytes, has, few, table_laws.reads bytes table e) a.1
 
 name-output : (Fault : Type 0) (words : List (List ℕ)) (files : Entries) (name time : List ℕ) → AskFor words name time → SomeOutput Fault words files
 name-output Fault words files name time asked = by (bytes_of name files) refl

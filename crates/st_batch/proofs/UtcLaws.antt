@@ -27,7 +27,7 @@ only text label (p, h, e, n) =
     let at = found p label n in
     let hours : are_of_day (fields_of p) ≡ true = grind (arith, nat_tests, n.hour, n.minute, n.second) in
     let range : is_in_range (label_of_fields (fields_of p) (day_number (number_of p.year) (number_of p.month) (number_of p.day))) ≡ true =
-      ap is_in_range at ∙ tested FIRST LAST (formal label) n.from n.to in
+    ap is_in_range at ∙ tested FIRST LAST (formal label) n.from n.to in
     rw e (rw (fields-spelled p h) (rw (there _ _ _ n.exists) (rw (hours, range) (ap Some at))))
 
 -- fields that make a label on a day
@@ -64,11 +64,11 @@ reads text label e =
     let f = fields-read text a.0 a.1 in
     let d = there_only a.0.year a.0.month a.0.day b.0 b.1 in
     elim (cases_Bool (are_of_day a.0 && is_in_range (label_of_fields a.0 b.0))) [
-      inl y ↦
-        let made : Make a.0 b.0 label = record { exists = d.0; number = d.1; tests = y; same = some-same _ label (rw y at b.2) } in
-        let P : Fields → Type 0 = λ g. Make g b.0 label in
-        (f.0, f.1, f.2, named f.0 b.0 label (subst P f.3 made))
-    | inr n ↦ let v = rw n at b.2 in absurd cc
+      | inl y ↦
+          let made : Make a.0 b.0 label = record { exists = d.0; number = d.1; tests = y; same = some-same _ label (rw y at b.2) } in
+          let P : Fields → Type 0 = λ g. Make g b.0 label in
+          (f.0, f.1, f.2, named f.0 b.0 label (subst P f.3 made))
+      | inr n ↦ let v = rw n at b.2 in absurd cc
     ]
 
 -- what the reading answers: the label of a UTC time, or nothing where the text is none

@@ -28,31 +28,31 @@ read-eight : (a name b from c to d text setup time : List ℕ) → job_of (a ∷
     → AskFor (a ∷ name ∷ b ∷ from ∷ c ∷ to ∷ d ∷ text ∷ []) setup time
 read-eight a name b from c to d text setup time e =
     elim (cases_Bool ((are_options a b c d && are_systems from to) && is_name name)) [
-      inl y ↦
-        let job = some-same (name, text) (setup, time) (rw y at e) in
-        let n : name ≡ setup = ap (λ (p : List ℕ × List ℕ). p.0) job in
-        let t : text ≡ time = ap (λ (p : List ℕ × List ℕ). p.1) job in
-        let first = and-left (are_options a b c d && are_systems from to) (is_name name) y in
-        let fits = fits-name name (and-right (are_options a b c d && are_systems from to) (is_name name) y) in
-        let options = and-left (are_options a b c d) (are_systems from to) first in
-        let systems = and-right (are_options a b c d) (are_systems from to) first in
-        let abc = bytes_eq a (codes "-setup") && bytes_eq b (codes "-from") && bytes_eq c (codes "-to") in
-        let three = and-left abc (bytes_eq d (codes "-time")) options in
-        let two = and-left (bytes_eq a (codes "-setup") && bytes_eq b (codes "-from")) (bytes_eq c (codes "-to")) three in
-        let ea = same a (codes "-setup") (and-left (bytes_eq a (codes "-setup")) (bytes_eq b (codes "-from")) two) in
-        let eb = same b (codes "-from") (and-right (bytes_eq a (codes "-setup")) (bytes_eq b (codes "-from")) two) in
-        let ec = same c (codes "-to") (and-right (bytes_eq a (codes "-setup") && bytes_eq b (codes "-from")) (bytes_eq c (codes "-to")) three) in
-        let ed = same d (codes "-time") (and-right abc (bytes_eq d (codes "-time")) options) in
-        let ef = same from (codes "UTC") (and-left (bytes_eq from (codes "UTC")) (bytes_eq to (codes "TAI")) systems) in
-        let et = same to (codes "TAI") (and-right (bytes_eq from (codes "UTC")) (bytes_eq to (codes "TAI")) systems) in
-        let P : List ℕ → Type 0 = λ w. (1 ≤ length w) × (length w ≤ 255) in
-        let fit = subst P n fits in
-        record {
-          shape = λ i. ea i ∷ n i ∷ eb i ∷ ef i ∷ ec i ∷ et i ∷ ed i ∷ t i ∷ [];
-          named = fit.0;
-          short = fit.1;
-        }
-    | inr x ↦ let v = rw x at e in absurd cc
+      | inl y ↦
+          let job = some-same (name, text) (setup, time) (rw y at e) in
+          let n : name ≡ setup = ap (λ (p : List ℕ × List ℕ). p.0) job in
+          let t : text ≡ time = ap (λ (p : List ℕ × List ℕ). p.1) job in
+          let first = and-left (are_options a b c d && are_systems from to) (is_name name) y in
+          let fits = fits-name name (and-right (are_options a b c d && are_systems from to) (is_name name) y) in
+          let options = and-left (are_options a b c d) (are_systems from to) first in
+          let systems = and-right (are_options a b c d) (are_systems from to) first in
+          let abc = bytes_eq a (codes "-setup") && bytes_eq b (codes "-from") && bytes_eq c (codes "-to") in
+          let three = and-left abc (bytes_eq d (codes "-time")) options in
+          let two = and-left (bytes_eq a (codes "-setup") && bytes_eq b (codes "-from")) (bytes_eq c (codes "-to")) three in
+          let ea = same a (codes "-setup") (and-left (bytes_eq a (codes "-setup")) (bytes_eq b (codes "-from")) two) in
+          let eb = same b (codes "-from") (and-right (bytes_eq a (codes "-setup")) (bytes_eq b (codes "-from")) two) in
+          let ec = same c (codes "-to") (and-right (bytes_eq a (codes "-setup") && bytes_eq b (codes "-from")) (bytes_eq c (codes "-to")) three) in
+          let ed = same d (codes "-time") (and-right abc (bytes_eq d (codes "-time")) options) in
+          let ef = same from (codes "UTC") (and-left (bytes_eq from (codes "UTC")) (bytes_eq to (codes "TAI")) systems) in
+          let et = same to (codes "TAI") (and-right (bytes_eq from (codes "UTC")) (bytes_eq to (codes "TAI")) systems) in
+          let P : List ℕ → Type 0 = λ w. (1 ≤ length w) × (length w ≤ 255) in
+          let fit = subst P n fits in
+          record {
+            shape = λ i. ea i ∷ n i ∷ eb i ∷ ef i ∷ ec i ∷ et i ∷ ed i ∷ t i ∷ [];
+            named = fit.0;
+            short = fit.1;
+          }
+      | inr x ↦ let v = rw x at e in absurd cc
     ]
 
 pub reads : (words : List (List ℕ)) (setup time : List ℕ) → job_of words ≡ Some (setup, time) → AskFor words setup time

@@ -40,7 +40,7 @@ unfoldable pub pair_line : List ℕ → Option Step
 pair_line line = do
   text ← after_blanks line
   (if closes text then (pair_of_text (take (length text - 2) text) >>= (λ pair. Some (record { stage = After; pair = Some pair })))
-   else (pair_of_text text >>= (λ pair. Some (record { stage = Listing; pair = Some pair }))))
+      else (pair_of_text text >>= (λ pair. Some (record { stage = Listing; pair = Some pair }))))
 
 -- the text behind `DELTET/DELTA_AT`, blanks, `=`, blanks and `(`
 unfoldable pub after_opening : List ℕ → Option (List ℕ)

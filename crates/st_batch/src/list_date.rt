@@ -63,4 +63,5 @@ fn midnight_of(day: i32) -> Option<i128>
 
 /// 1900-01-01 and 2100-01-01, in days past 2000-01-01.
 const FIRST_DAY: i32 = -36_524;
+
 const LAST_DAY: i32 = 36_525;

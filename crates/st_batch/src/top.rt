@@ -72,7 +72,11 @@ fn deliver<O: Sink>(out: &mut O, prepared: &Prepared) -> Status
 }
 
 /// The whole output for the words and the files, before anything is written.
-fn prepare<F: Files>(alloc: Global, words: &[String], files: &mut F) -> Result<Prepared, OutOfMemory>
+fn prepare<F: Files>(
+    alloc: Global,
+    words: &[String],
+    files: &mut F,
+) -> Result<Prepared, OutOfMemory>
     ensures told { IfOk result (λ p. WhereKnown (F.map files.old) (λ es.
         Allowed (Rose (F.faults files.old) (F.faults files.new)) (map string_bytes words.now) es p.status p.output)) }
     ensures whole { IfOk result (λ p. IsWhole p.status) }

@@ -8,6 +8,6 @@ pub returns-in-Err-NotTable-clause-err : goal.returns-in-Err-NotTable-clause-err
 returns-in-Err-NotTable-clause-err g c =
     let Fault = Rose (g.F.Files.faults c.args.files.now) (g.F.Files.faults c.read_file.new.files) in
     no-table Fault (g.F.Files.map c.args.files.now) c.args.name.now c.in-Ok.bytes.items c.in-Ok.ensures.ok c.in-Ok.ensures.few
-      (λ table held.
-        let P : List ℕ → Type 0 = λ bytes. HoldsTable bytes table in
-        c.in-Err-NotTable.ensures.not_table (ap Err c.in-Err-NotTable.field-0-is) table (subst P (sym c.as_slice.ensures.value) held))
+    (λ table held.
+    let P : List ℕ → Type 0 = λ bytes. HoldsTable bytes table in
+    c.in-Err-NotTable.ensures.not_table (ap Err c.in-Err-NotTable.field-0-is) table (subst P (sym c.as_slice.ensures.value) held))
