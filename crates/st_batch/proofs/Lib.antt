@@ -1,6 +1,7 @@
 pub mod LineLaws
 pub mod ListDateLaws
 pub mod Numbers
+pub mod OneOutput
 pub mod PairLaws
 pub mod PairLoop
 pub mod RunLaws

@@ -1,4 +1,5 @@
 pub mod Causes
+pub mod Laws
 pub mod LeapList
 pub mod LeapListMachine
 pub mod LeapSeconds

@@ -6,6 +6,7 @@
 
 mod answer;
 mod fault;
+pub mod laws;
 mod leap_list;
 mod leap_seconds;
 mod list_date;
