@@ -8,7 +8,11 @@ mod line;
 mod memory;
 mod name_list;
 mod number;
+mod pieces;
 mod place;
+mod read;
+mod value;
+mod zeros;
 
 pub use fixed::put_fixed;
 pub use kernel_text::KText;
@@ -16,3 +20,4 @@ pub use line::Line;
 pub use memory::OutOfMemory;
 pub use name_list::NameList;
 pub use number::{Dec, DecFault};
+pub use read::read_dec;

@@ -43,5 +43,8 @@ digit_at (x ∷ xs) (suc i) h d = digit_at xs i (omega arith) (grind arith)
 pub room : (k : ℕ) → k < 18 → 10 ^ k ≤ 10 ^ 17
 room k h = pow-le-pow_right {n = 10} (omega arith) {i = k} {j = 17} (omega arith)
 
+pub wide_room : (k : ℕ) → k < 38 → 10 ^ k ≤ 10 ^ 37
+wide_room k h = pow-le-pow_right {n = 10} (omega arith) {i = k} {j = 37} (omega arith)
+
 pub more_below : (n d k : ℕ) → n < 10 ^ k → d < 10 → 10 * n + d < 10 ^ (k + 1)
 more_below n d k h e = rw add-one (omega (arith, pow-suc 10 k))

@@ -25,6 +25,20 @@ pub fn read_digits(text: &[u8]) -> u64
     number
 }
 
+/// The number that at most 38 digits spell; 0 where there is none.
+pub fn read_wide_digits(text: &[u8]) -> u128
+    requires digits { IsTrue (digits.are_digits text.now) }
+    requires few { length text.now ≤ 38 }
+    ensures value { result ≡ number_of text.now }
+    ensures below { result < 10 ^ length text.now }
+{
+    let mut number = 0;
+    for byte in text {
+        number = 10 * number + u128::from(byte.saturating_sub(b'0'));
+    }
+    number
+}
+
 #[cfg(test)]
 mod tests {
     use super::*;
@@ -39,6 +53,8 @@ mod tests {
         assert_eq!(rt; read_digits(b""), 0);
         assert_eq!(rt; read_digits(b"007"), 7);
         assert_eq!(rt; read_digits(b"999999999999999999"), 999_999_999_999_999_999);
+        let most = 99_999_999_999_999_999_999_999_999_999_999_999_999;
+        assert_eq!(rt; read_wide_digits(b"99999999999999999999999999999999999999"), most);
         Ok(())
     }
 }

@@ -7,6 +7,6 @@ mod lines;
 mod spelling;
 
 pub use blanks::{are_blanks, is_blank, skip_blanks, trim};
-pub use digits::{are_digits, read_digits};
+pub use digits::{are_digits, read_digits, read_wide_digits};
 pub use lines::{split_line, without_cr};
 pub use spelling::{put_padded, write_padded};
