@@ -1,7 +1,11 @@
 pub mod CalendarLaws
 pub mod CivilLaws
 pub mod DateLaws
+pub mod DayForms
 pub mod DayLemmas
-pub mod Forms
+mod Examples
 pub mod NameLaws
 pub mod Runs
+pub mod Scans
+pub mod TimeCuts
+pub mod TimeForms

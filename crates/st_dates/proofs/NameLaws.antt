@@ -1,14 +1,15 @@
 -- Looking a month's name up gives the month that it names, and no other.
-use Rattle.std.proofs.Common.{◌≡◌, ℕ, zero, suc, ◌+◌, ◌-◌, ◌<◌, ◌≤◌, ◌⊎◌, true, false, inl, inr, refl, sym, ap, ◌∙◌, arith, List, [], ◌∷◌, length, take, drop, slice_index_or, Option, Some, None, IfSome, if◌then◌else◌, Bool}
+use Rattle.std.proofs.Common.{◌≡◌, ℕ, zero, suc, ◌+◌, ◌-◌, ◌<◌, ◌≤◌, ◌⊎◌, true, false, inl, inr, refl, sym, ap, ◌∙◌, arith, List, [], ◌∷◌, length, take, drop, slice_index_or, Option, Some, None, IfSome, if◌then◌else◌, Bool, not, ◌&&◌, ◌==◌, nat_le, ◌++◌}
 use Rattle.std.proofs.lemmas.Bool.{cases_Bool, or_cases}
 use Rattle.std.proofs.lemmas.Slice.Eq.{bytes_eq-Decides}
 use Rattle.std.proofs.lemmas.Bool.Decides.{nat_tests}
-use Rattle.std.specs.Char.{to_ascii_lowercase}
+use Rattle.std.specs.Char.{is_ascii_digit, to_ascii_lowercase}
 use Rattle.std.specs.List.{list_all}
 use Rattle.std.specs.Str.{bytes_eq}
-use Rattle.st_dates.specs.AtDateMachine.{is_no_dash}
+use Rattle.st_dates.specs.ScanMachine.{is_no_dash}
 use Rattle.st_dates.specs.Names.{NamesMonth, name_of_month, month_names, lowered, AreSameLetters}
 use Rattle.st_dates.specs.NamesMachine.{is_name, month_from, month_named}
+use Rattle.st_dates.proofs.Runs.{Stops, head_passes, tail_passes}
 
 -- a fact about each month, from one proof for each
 by_month : (P : ℕ → Type 0) → P 1 → P 2 → P 3 → P 4 → P 5 → P 6 → P 7 → P 8 → P 9 → P 10 → P 11 → P 12 → (m : ℕ) → 1 ≤ m → m ≤ 12 → P m
@@ -123,28 +124,67 @@ last m name e inv = rw e at inv
 pub names : (text : List ℕ) (m : ℕ) → month_named text ≡ Some m → NamesMonth text m
 names text m e = named (Some m) text (sym e)
 
-lower_dash : (b : ℕ) → is_no_dash (to_ascii_lowercase b) ≡ is_no_dash b
-lower_dash b = grind (arith, nat_tests)
+-- what a month's name is made of: no `-` and no digit
+abbrev pub is_name_byte : ℕ → Bool
+is_name_byte b = not (b == 45) && not (is_ascii_digit b)
 
-lower_dashes : (t : List ℕ) → list_all is_no_dash (lowered t) ≡ list_all is_no_dash t
-lower_dashes [] = refl
-lower_dashes (b ∷ t) = rw (lower_dash b, lower_dashes t) refl
+lower_byte : (b : ℕ) → is_name_byte (to_ascii_lowercase b) ≡ is_name_byte b
+lower_byte b = grind (arith, nat_tests)
 
-HasNoDash : ℕ → Type 0
-HasNoDash m =
-    (list_all is_no_dash (lowered (name_of_month m)) ≡ true)
-    × (list_all is_no_dash (lowered (take 3 (name_of_month m))) ≡ true)
+lower_bytes : (t : List ℕ) → list_all is_name_byte (lowered t) ≡ list_all is_name_byte t
+lower_bytes [] = refl
+lower_bytes (b ∷ t) = rw (lower_byte b, lower_bytes t) refl
 
-no_dash_in : (m : ℕ) → 1 ≤ m → m ≤ 12 → HasNoDash m
-unfolding HasNoDash
-no_dash_in = by_month HasNoDash (refl, refl) (refl, refl) (refl, refl) (refl, refl) (refl, refl) (refl, refl) (refl, refl) (refl, refl) (refl, refl) (refl, refl) (refl, refl) (refl, refl)
+lower_length : (t : List ℕ) → length (lowered t) ≡ length t
+lower_length [] = refl
+lower_length (b ∷ t) = ap suc (lower_length t)
+
+-- a text of at least one byte, each a name's
+abbrev is_plain : List ℕ → Bool
+is_plain text = list_all is_name_byte text && nat_le 1 (length text)
+
+unfoldable IsPlain : ℕ → Type 0
+IsPlain m =
+    (is_plain (lowered (name_of_month m)) ≡ true)
+    × (is_plain (lowered (take 3 (name_of_month m))) ≡ true)
+
+plain_in : (m : ℕ) → 1 ≤ m → m ≤ 12 → IsPlain m
+unfolding IsPlain
+plain_in = by_month IsPlain (refl, refl) (refl, refl) (refl, refl) (refl, refl) (refl, refl) (refl, refl) (refl, refl) (refl, refl) (refl, refl) (refl, refl) (refl, refl) (refl, refl)
+
+plain_name : (text : List ℕ) (m : ℕ) → NamesMonth text m → is_plain (lowered text) ≡ true
+unfolding IsPlain
+plain_name text m h =
+    let each = plain_in m h.month_from h.month_to in
+    elim h.letters [
+      | inl e ↦ rw e each.0
+      | inr e ↦ rw e each.1
+    ]
+
+all_name_bytes : (text : List ℕ) (m : ℕ) → NamesMonth text m → list_all is_name_byte text ≡ true
+all_name_bytes text m h =
+    sym (lower_bytes text) ∙ head_passes (list_all is_name_byte (lowered text)) (nat_le 1 (length (lowered text))) (plain_name text m h)
+
+dashless : (t : List ℕ) → list_all is_name_byte t ≡ true → list_all is_no_dash t ≡ true
+dashless [] h = refl
+dashless (b ∷ t) h =
+    let here : is_no_dash b ≡ true = head_passes (not (b == 45)) (not (is_ascii_digit b)) (head_passes (is_name_byte b) (list_all is_name_byte t) h) in
+    rw here (dashless t (tail_passes (is_name_byte b) (list_all is_name_byte t) h))
 
 -- a month's name has no dash in it
 pub no_dash : (text : List ℕ) (m : ℕ) → NamesMonth text m → list_all is_no_dash text ≡ true
-unfolding HasNoDash
-no_dash text m h =
-    let none = no_dash_in m h.month_from h.month_to in
-    sym (lower_dashes text) ∙ elim h.letters [
-      | inl e ↦ rw e none.0
-      | inr e ↦ rw e none.1
-    ]
+no_dash text m h = dashless text (all_name_bytes text m h)
+
+not_true : (b : Bool) → not b ≡ true → b ≡ false
+not_true true h = absurd (cc)
+not_true false h = refl
+
+no_digit_first : (text rest : List ℕ) → list_all is_name_byte text ≡ true → nat_le 1 (length (lowered text)) ≡ true → Stops is_ascii_digit (text ++ rest)
+no_digit_first [] rest h k = absurd (cc)
+no_digit_first (b ∷ t) rest h k =
+    not_true (is_ascii_digit b) (tail_passes (not (b == 45)) (not (is_ascii_digit b)) (head_passes (is_name_byte b) (list_all is_name_byte t) h))
+
+-- and begins with no digit
+pub no_digit : (text rest : List ℕ) (m : ℕ) → NamesMonth text m → Stops is_ascii_digit (text ++ rest)
+no_digit text rest m h =
+    no_digit_first text rest (all_name_bytes text m h) (tail_passes (list_all is_name_byte (lowered text)) (nat_le 1 (length (lowered text))) (plain_name text m h))

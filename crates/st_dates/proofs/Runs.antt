@@ -3,7 +3,7 @@ use Rattle.std.proofs.Common.{◌≡◌, ℕ, Bool, true, false, ◌-◌, ◌&&�
 use Rattle.std.proofs.lemmas.Bool.{cases_Bool}
 use Rattle.std.proofs.lemmas.List.{take_rest}
 use Rattle.std.specs.List.{list_all, prefix_len}
-use Rattle.st_dates.specs.AtDateMachine.{leading, behind}
+use Rattle.st_dates.specs.ScanMachine.{leading, behind}
 
 -- a text that has no byte or whose first byte fails
 abbrev pub Stops : (ℕ → Bool) → List ℕ → Type 0

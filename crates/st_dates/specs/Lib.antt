@@ -3,6 +3,11 @@ pub mod AtDateMachine
 pub mod Calendar
 pub mod CalendarMachine
 pub mod Civil
+pub mod DayText
+pub mod DayTextMachine
 pub mod Label
 pub mod Names
 pub mod NamesMachine
+pub mod ScanMachine
+pub mod TimeText
+pub mod TimeTextMachine

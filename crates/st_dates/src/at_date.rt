@@ -1,28 +1,21 @@
-ghost use Rattle.std.specs.Prelude.{◌≡◌, ◌≤◌, ℤ, Result, IsTrue, IfSome, length};
-ghost use Rattle.st_text.specs.Bytes.{are_digits as all_digits};
-ghost use Rattle.st_dates.specs.AtDate.{ReadsAtDate, midnight};
-ghost use Rattle.st_dates.specs.AtDateMachine.{at_date_of};
+ghost use Rattle.std.specs.Prelude.{◌≡◌, ◌<◌, ◌*◌, ◌^◌, ℤ, Result};
+ghost use Rattle.st_dates.specs.AtDate.{ReadsAtDate, moment};
 ghost use Rattle.st_dates.specs.AtDateMachine as machine;
+ghost use Rattle.st_dates.specs.AtDateMachine.{at_date_of};
 ghost use Rattle.st_dates.specs.declared.fault.DateFault.{DateFault as Fault};
 
+use crate::day_text::{number_of, read_day};
 use crate::label::DAY;
-use crate::scan::{after_dash, split_digits, split_name};
-use crate::{DateFault, FIRST, LAST, day_of, month_of};
-use st_text::{are_digits, read_digits};
+use crate::time_text::read_time;
+use crate::{DateFault, FIRST, LAST};
 
-/// A date as a text names it, whether the calendar has it or not.
-#[derive(Clone, Copy, Debug)]
-pub struct CalendarDate {
-    pub year: u32,
-    pub month: u32,
-    pub day: u32,
-}
-
-/// The instant of a date of a text kernel, whose text stands after an `@`: the formal count of its
-/// midnight, in units of 10^-18 s past 2000-01-01 12:00:00.
+/// The instant of a date of a text kernel, whose text stands after an `@`: its formal count, in units
+/// of 10^-18 s past 2000-01-01 12:00:00.
 ///
-/// The form is `YYYY-MON-D`: four digits, a month's name or its first three letters in any letter
-/// case, and one or two digits.
+/// The day is one of `YYYY-MM-DD`, `YYYY-MON-D`, `D-MON-YYYY` and `YYYY-DOY`: a year of four digits, a
+/// place in the year of three, a month and a day of one or two, and a month's name or its first three
+/// letters in any letter case. A time may follow one of `/`, `//`, `T`, `t` and `-`: it is `H:MM`,
+/// `H:MM:SS` or `H:MM:SS.f`, with 1 to 12 decimals.
 pub fn read_at_date(text: &[u8]) -> Result<i128, DateFault>
     ensures reads { ReadsAtDate text.now result }
     ensures only { (answer : Result ℤ Fault) → ReadsAtDate text.now answer → result ≡ answer }
@@ -31,64 +24,28 @@ pub fn read_at_date(text: &[u8]) -> Result<i128, DateFault>
     read(text)
 }
 
-#[tactic(auto, using(crate::proofs::DayLemmas::year_as_i32), unfolding(crate::specs::AtDateMachine::at_date_of))]
+#[tactic(auto, unfolding(crate::specs::AtDateMachine::at_date_of, crate::specs::AtDateMachine::parts_of))]
 fn read(text: &[u8]) -> Result<i128, DateFault>
     ensures { result ≡ at_date_of text.now }
 {
-    let Some(date) = parts_of(text) else {
+    let Some((date, rest)) = read_day(text) else {
         return Err(DateFault::Form);
     };
-    match day_of(date.year as i32, date.month, date.day) {
-        Some(day) => ranged(midnight_of(day)),
+    let Some(units) = read_time(rest) else {
+        return Err(DateFault::Form);
+    };
+    match number_of(date) {
+        Some(day) => ranged(moment_of(day, units)),
         None => Err(DateFault::NoSuchDay),
     }
 }
 
-/// The year, month and day that a text spells.
-#[tactic(auto, unfolding(crate::specs::AtDateMachine::parts_of))]
-fn parts_of(text: &[u8]) -> Option<CalendarDate>
-    ensures value { result ≡ machine.parts_of text.now }
-    ensures year { IfSome result (λ date. date.year ≤ 9999) }
+/// The formal count of a moment of a day.
+fn moment_of(day: i32, units: u128) -> i128
+    requires { units < 86_400 * 10 ^ 18 }
+    ensures { result ≡ moment day units }
 {
-    let (year, rest) = split_digits(text);
-    if year.len() != 4 {
-        return None;
-    }
-    month_and_day(read_digits(year) as u32, after_dash(rest)?)
-}
-
-/// The date of a year and the text behind its dash, `MON-D`.
-fn month_and_day(year: u32, text: &[u8]) -> Option<CalendarDate>
-    ensures value { result ≡ machine.month_and_day year (Some text.now) }
-    ensures year { IfSome result (λ date. date.year ≡ year) }
-{
-    let (name, rest) = split_name(text);
-    let month = month_of(name)?;
-    let day = after_dash(rest)?;
-    if !is_short(day) {
-        return None;
-    }
-    Some(CalendarDate {
-        year,
-        month: u32::from(month),
-        day: read_digits(day) as u32,
-    })
-}
-
-/// Whether a text is one or two digits.
-fn is_short(text: &[u8]) -> bool
-    ensures value { result ≡ machine.is_short text.now }
-    ensures digits { IsTrue result → IsTrue (all_digits text.now) }
-    ensures few { IsTrue result → length text.now ≤ 2 }
-{
-    are_digits(text) && 1 <= text.len() && text.len() <= 2
-}
-
-/// The formal count of a day's midnight.
-fn midnight_of(day: i32) -> i128
-    ensures { result ≡ midnight day }
-{
-    day as i128 * DAY - DAY / 2
+    day as i128 * DAY - DAY / 2 + units as i128
 }
 
 fn ranged(instant: i128) -> Result<i128, DateFault>
@@ -105,41 +62,81 @@ fn ranged(instant: i128) -> Result<i128, DateFault>
 mod tests {
     use super::*;
 
-    /// The seconds past J2000 as units.
-    fn seconds(count: i64) -> Result<i128, DateFault> {
-        Ok(i128::from(count) * 1_000_000_000_000_000_000)
+    const FORM: Result<i128, DateFault> = Err(DateFault::Form);
+
+    const NO_DAY: Result<i128, DateFault> = Err(DateFault::NoSuchDay);
+
+    const OUT_OF_RANGE: Result<i128, DateFault> = Err(DateFault::OutOfRange);
+
+    /// Units past J2000 from seconds and 10^-12 of a second.
+    fn at(seconds: i64, parts: i64) -> Result<i128, DateFault> {
+        Ok(i128::from(seconds) * 1_000_000_000_000_000_000 + i128::from(parts) * 1_000_000)
     }
 
     #[test]
-    fn reads_dates(rt: HostRuntime) {
-        let form = Err(DateFault::Form);
-        let no_day = Err(DateFault::NoSuchDay);
-        let out_of_range = Err(DateFault::OutOfRange);
-        let table: [(&[u8], Result<i128, DateFault>); 24] = [
-            (b"1972-JAN-1", seconds(-883_656_000)),
-            (b"1972-JUL-1", seconds(-867_931_200)),
-            (b"2017-JAN-1", seconds(536_500_800)),
-            (b"2017-jan-01", seconds(536_500_800)),
-            (b"2017-January-1", seconds(536_500_800)),
-            (b"2000-FEB-29", seconds(5_054_400)),
-            (b"1900-JAN-1", seconds(-3_155_716_800)),
-            (b"2100-JAN-1", seconds(3_155_716_800)),
-            (b"2100-JAN-2", out_of_range),
-            (b"1899-DEC-31", out_of_range),
-            (b"0000-FEB-29", out_of_range),
-            (b"0000-FEB-30", no_day),
-            (b"1900-FEB-29", no_day),
-            (b"2001-APR-31", no_day),
-            (b"2001-APR-0", no_day),
-            (b"2001-APR-00", no_day),
-            (b"", form),
-            (b"2001", form),
-            (b"2001-APR", form),
-            (b"2001-APR-", form),
-            (b"2001-APR-001", form),
-            (b"2001-APRI-1", form),
-            (b"201-APR-1", form),
-            (b" 2001-APR-1", form),
+    fn reads_days(rt: HostRuntime) {
+        let table: [(&[u8], Result<i128, DateFault>); 30] = [
+            (b"1972-JAN-1", at(-883_656_000, 0)),
+            (b"1972-JUL-1", at(-867_931_200, 0)),
+            (b"2017-jan-01", at(536_500_800, 0)),
+            (b"2017-January-1", at(536_500_800, 0)),
+            (b"2017-1-1", at(536_500_800, 0)),
+            (b"2017-01-01", at(536_500_800, 0)),
+            (b"1-JAN-2017", at(536_500_800, 0)),
+            (b"01-january-2017", at(536_500_800, 0)),
+            (b"2017-001", at(536_500_800, 0)),
+            (b"2000-FEB-29", at(5_054_400, 0)),
+            (b"2000-366", at(31_492_800, 0)),
+            (b"1900-JAN-1", at(-3_155_716_800, 0)),
+            (b"2100-JAN-1", at(3_155_716_800, 0)),
+            (b"2100-JAN-2", OUT_OF_RANGE),
+            (b"1899-365", OUT_OF_RANGE),
+            (b"0000-02-29", OUT_OF_RANGE),
+            (b"0000-02-30", NO_DAY),
+            (b"1900-FEB-29", NO_DAY),
+            (b"31-APR-2001", NO_DAY),
+            (b"2001-13-1", NO_DAY),
+            (b"2001-0-1", NO_DAY),
+            (b"2001-366", NO_DAY),
+            (b"2001-000", NO_DAY),
+            (b"", FORM),
+            (b"2001-APR", FORM),
+            (b"2001-APR-001", FORM),
+            (b"2001-01", FORM),
+            (b"2001-0001", FORM),
+            (b"1-4-2001", FORM),
+            (b" 2001-APR-1", FORM),
+        ];
+        for (text, answer) in table {
+            assert_eq!(rt; read_at_date(text), answer);
+        }
+    }
+
+    #[test]
+    fn reads_times(rt: HostRuntime) {
+        let table: [(&[u8], Result<i128, DateFault>); 22] = [
+            (b"2000-01-01/12:00", at(0, 0)),
+            (b"2000-01-01//12:00", at(0, 0)),
+            (b"2000-001T12:0", at(0, 0)),
+            (b"1-JAN-2000t12:0:0", at(0, 0)),
+            (b"2000-JAN-1-12:00:00.000000000001", at(0, 1)),
+            (b"2000-001-12:00:07.25", at(7, 250_000_000_000)),
+            (b"2000-001T0:0", at(-43_200, 0)),
+            (b"1999-12-31T23:59:59.5", at(-43_201, 500_000_000_000)),
+            (b"2100-01-01T0:00:00.0", at(3_155_716_800, 0)),
+            (b"2100-01-01T0:00:00.1", OUT_OF_RANGE),
+            (b"2001-02-29T1:00", NO_DAY),
+            (b"2000-001T24:00", FORM),
+            (b"2000-001T1:60", FORM),
+            (b"2016-12-31T23:59:60", FORM),
+            (b"2000-001T1", FORM),
+            (b"2000-001T1:2:3.", FORM),
+            (b"2000-001T1:2:3.0000000000001", FORM),
+            (b"2000-001T001:00", FORM),
+            (b"2000-001 1:00", FORM),
+            (b"2000-001///1:00", FORM),
+            (b"2000-001T", FORM),
+            (b"2001-02-29T1", FORM),
         ];
         for (text, answer) in table {
             assert_eq!(rt; read_at_date(text), answer);

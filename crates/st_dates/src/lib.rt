@@ -7,11 +7,13 @@
 mod at_date;
 mod civil;
 mod day;
+mod day_text;
 mod fault;
 mod label;
 mod names;
 mod scan;
 mod system;
+mod time_text;
 
 pub use at_date::read_at_date;
 pub use civil::{Civil, civil_of};

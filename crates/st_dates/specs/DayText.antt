@@ -1,0 +1,56 @@
+-- The day of a date as it is written. Source: Time Required Reading, "Input String Conventions": years
+-- of four digits, with a month's number, its name, or the place of the day in its year.
+use Rattle.std.specs.Prelude.{◌≡◌, ℕ, ◌≤◌, List, ◌∷◌, ◌++◌, length, IsTrue, ℤ}
+use Rattle.st_text.specs.Bytes.{are_digits, number_of}
+use Rattle.st_dates.specs.Calendar.{IsCalendarDay, IsDayOfYear, day_number, number_in_year}
+use Rattle.st_dates.specs.Names.{NamesMonth}
+
+-- digits alone, from `low` to `high` of them
+pub record AreDigits (low high : ℕ) (text : List ℕ) : Type 0 where
+  pub digits : IsTrue (are_digits text)
+  pub at_least : low ≤ length text
+  pub at_most : length text ≤ high
+
+-- the parts of a day as they stand in the text, one case for each form
+pub data DayText : Type 0 where
+  -- YYYY-MM-DD: year, month, day
+  numeric : List ℕ → List ℕ → List ℕ → DayText
+  -- YYYY-MON-D: year, a month's name, day
+  named : List ℕ → List ℕ → List ℕ → DayText
+  -- D-MON-YYYY: day, a month's name, year
+  day_first : List ℕ → List ℕ → List ℕ → DayText
+  -- YYYY-DOY: year, place in the year
+  of_year : List ℕ → List ℕ → DayText
+
+-- the whole text of a day; 45 is the byte `-`
+abbrev pub day_spelling : DayText → List ℕ
+day_spelling (numeric year month day) = year ++ (45 ∷ (month ++ (45 ∷ day)))
+day_spelling (named year name day) = year ++ (45 ∷ (name ++ (45 ∷ day)))
+day_spelling (day_first day name year) = day ++ (45 ∷ (name ++ (45 ∷ year)))
+day_spelling (of_year year place) = year ++ (45 ∷ place)
+
+-- the text is some month's name
+abbrev pub IsMonthName : List ℕ → Type 0
+IsMonthName name = (m : ℕ) × NamesMonth name m
+
+-- what each part must be
+abbrev pub AreDayParts : DayText → Type 0
+AreDayParts (numeric year month day) = AreDigits 4 4 year × AreDigits 1 2 month × AreDigits 1 2 day
+AreDayParts (named year name day) = AreDigits 4 4 year × IsMonthName name × AreDigits 1 2 day
+AreDayParts (day_first day name year) = AreDigits 1 2 day × IsMonthName name × AreDigits 4 4 year
+AreDayParts (of_year year place) = AreDigits 4 4 year × AreDigits 3 3 place
+
+-- the calendar has this date, and n is its day number
+abbrev pub IsDateOf : ℕ → ℕ → ℕ → ℤ → Type 0
+IsDateOf y m d n = IsCalendarDay y m d × (n ≡ day_number y m d)
+
+-- the calendar has the written day, and n is its day number
+abbrev pub IsDayOf : DayText → ℤ → Type 0
+IsDayOf (numeric year month day) n = IsDateOf (number_of year) (number_of month) (number_of day) n
+IsDayOf (named year name day) n =
+    (m : ℕ) × NamesMonth name m × IsDateOf (number_of year) m (number_of day) n
+IsDayOf (day_first day name year) n =
+    (m : ℕ) × NamesMonth name m × IsDateOf (number_of year) m (number_of day) n
+IsDayOf (of_year year place) n =
+    IsDayOfYear (number_of year) (number_of place)
+    × (n ≡ number_in_year (number_of year) (number_of place))
