@@ -39,3 +39,7 @@ pub lines_end : (k : Kernel) (n : ℕ) (rest : List ℕ) → (length rest == 0) 
 unfolding lines_of
 lines_end k n [] h = refl
 lines_end k n (b ∷ t) h = absurd (grind (arith, nat_tests, h))
+
+pub same_failure : (r : Result (Unit {0}) TextFault) (f : TextFault) (q : Kernel) (all : Result Kernel Fault)
+    → r ≡ Err f → Gives {A = Unit {0}} q (Err f) all → Gives {A = Unit {0}} q r all
+same_failure r f q all e h = let P : Result (Unit {0}) TextFault → Type 0 = λ x. Gives {A = Unit {0}} q x all in subst P (sym e) h

@@ -2,22 +2,14 @@
 
 ghost use Rattle.std.specs.Prelude.{◌≡◌, ◌≤◌, ◌<◌, ◌^◌, length, unsigned_abs};
 ghost use Rattle.st_kernel_text.specs.ValueMachine as spec;
-ghost use Rattle.st_decimal.specs.NumberMachine.{dec_of};
 ghost use Rattle.st_decimal.specs.Value as decimal;
 
 use crate::fault::TextCause;
 use st_dates::read_at_date;
-use st_decimal::{Dec, DecFault};
+use st_decimal::{Dec, read_dec};
 
 /// The most bytes that a number may have; no line has more.
 const MOST_BYTES: usize = 1000;
-
-fn read_dec(text: &[u8]) -> Result<Dec, DecFault>
-    requires { length text.now ≤ 1000 }
-    ensures { result ≡ dec_of text.now }
-{
-    Err(DecFault::Empty)
-}
 
 /// The number that a run of bytes spells, or the seconds of a date behind an `@`.
 #[tactic(auto, unfolding(crate::specs::ValueMachine::number_of_run))]
