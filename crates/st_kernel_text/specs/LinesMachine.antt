@@ -1,30 +1,15 @@
 -- The reader of lines: each is the twin of a function of the code.
-use Rattle.std.specs.Prelude.{ℕ, ◌+◌, Bool, true, false, ◌&&◌, List, [], ◌∷◌, ◌++◌, length, drop, map, codes, nat_eq, Result, Ok, Err, nat_lt, if◌then◌else◌}
-use Rattle.std.specs.List.{list_all, starts_with}
-use Rattle.st_text.specs.Bytes.{is_blank}
-use Rattle.st_text.specs.Lines.{skip_blanks, lines_of}
+use Rattle.std.specs.Prelude.{ℕ, ◌+◌, true, false, List, [], ◌∷◌, length, Result, Ok, Err, nat_lt, if◌then◌else◌}
+use Rattle.std.specs.List.{list_all}
+use Rattle.st_text.specs.Lines.{lines_of}
 use Rattle.st_kernel_text.specs.Bytes.{is_allowed}
 use Rattle.st_kernel_text.specs.Fault.{Fault, fails}
+use Rattle.st_kernel_text.specs.File.{begins_data, begins_text, numbered}
 use Rattle.st_kernel_text.specs.ParserMachine.{◌>>=◌, fresh, steps_of, step_of, finish_of}
 use Rattle.st_kernel_text.specs.declared.assignment.Assignment.{Assignment}
 use Rattle.st_kernel_text.specs.declared.fault.TextCause.TheVariants.{LineTooLong, BadByte}
 use Rattle.st_kernel_text.specs.declared.kernel.Kernel.{Kernel}
 use Rattle.st_kernel_text.specs.declared.parser.Parser.{Parser}
-
--- the word alone, with blanks around it
-unfoldable pub is_marker : List ℕ → List ℕ → Bool
-is_marker word line =
-    starts_with nat_eq (skip_blanks line) word && list_all is_blank (drop (length word) (skip_blanks line))
-
-abbrev pub begins_data : List ℕ → Bool
-begins_data line = is_marker (codes "\\begindata") line
-
-abbrev pub begins_text : List ℕ → Bool
-begins_text line = is_marker (codes "\\begintext") line
-
--- the bytes of a line with its number
-abbrev pub numbered : ℕ → List ℕ → List (ℕ × ℕ)
-numbered n line = map (λ b. (n, b)) line
 
 -- a data line and its end
 abbrev pub read_data_of : Parser → ℕ → List ℕ → Result Parser Fault

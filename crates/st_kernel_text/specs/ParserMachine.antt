@@ -5,7 +5,8 @@ use Rattle.st_text.specs.Bytes.{is_blank}
 use Rattle.st_decimal.specs.declared.number.Dec.{Dec}
 use Rattle.st_kernel_text.specs.Bytes.{is_space, is_separator, is_delimiter, is_name_byte, is_run_byte}
 use Rattle.st_kernel_text.specs.Fault.{Fault, fails}
-use Rattle.st_kernel_text.specs.ValueMachine.{number_of_run, cause_of_run, fits}
+use Rattle.st_kernel_text.specs.ValueMachine.{number_of_run, fits}
+use Rattle.st_kernel_text.specs.Values.{cause_of_run, may_follow}
 use Rattle.st_kernel_text.specs.declared.assignment.Assignment.{Assignment}
 use Rattle.st_kernel_text.specs.declared.assignment.Mode.{Mode}
 use Rattle.st_kernel_text.specs.declared.assignment.Mode.TheVariants.{Set, Add}
@@ -149,7 +150,7 @@ quoted_of p n b =
 abbrev pub quote_of : Parser → ℕ → ℕ → Result Parser Fault
 quote_of p n b =
     if b == 39 then push_quoted p n b
-    else (if is_separator b || (b == 41) then put_of p (Text p.run) n b else fails n BadString)
+    else (if may_follow b then put_of p (Text p.run) n b else fails n BadString)
 
 abbrev pub step_in : Stage → Parser → ℕ → ℕ → Result Parser Fault
 step_in Fresh p n b = fresh_of p n b

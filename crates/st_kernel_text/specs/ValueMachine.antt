@@ -7,10 +7,8 @@ use Rattle.st_decimal.specs.Value.{signed}
 use Rattle.st_dates.specs.declared.fault.DateFault.{DateFault}
 use Rattle.st_dates.specs.AtDateMachine.{at_date_of}
 use Rattle.st_kernel_text.specs.DateValue.{is_negative}
-use Rattle.st_kernel_text.specs.declared.fault.TextCause.{TextCause}
-use Rattle.st_kernel_text.specs.declared.fault.TextCause.TheVariants.{BadNumber, BadDate}
+use Rattle.st_kernel_text.specs.Grammar.{same_kind}
 use Rattle.st_kernel_text.specs.declared.value.Value.{Value}
-use Rattle.st_kernel_text.specs.declared.value.Value.TheVariants.{Number, Text}
 
 -- a number without the zeros at its end, at most so many of them, and how many there were
 unfoldable pub strip_of : ℕ → ℕ → ℕ → ℕ × ℕ
@@ -46,17 +44,6 @@ unfoldable pub number_of_run : List ℕ → Option Dec
 number_of_run [] = None
 number_of_run (b ∷ t) =
     if b == 64 then date_number t else short_number (b ∷ t)
-
--- what a run that spells no number is called
-abbrev pub cause_of_run : List ℕ → TextCause
-cause_of_run [] = BadNumber
-cause_of_run (b ∷ t) = if b == 64 then BadDate else BadNumber
-
-abbrev pub same_kind : Value → Value → Bool
-same_kind (Number d) (Number e) = true
-same_kind (Number d) (Text e) = false
-same_kind (Text d) (Number e) = false
-same_kind (Text d) (Text e) = true
 
 -- whether a value has the kind of the first of those before it
 abbrev pub fits : List Value → Value → Bool

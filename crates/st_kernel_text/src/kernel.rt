@@ -3,8 +3,10 @@
 ghost use Rattle.std.specs.Prelude.{◌≡◌};
 ghost use Rattle.std.specs.List.{list_all};
 ghost use Rattle.st_kernel_text.specs.Bytes as bytes;
+ghost use Rattle.st_kernel_text.specs.File as file;
+ghost use Rattle.st_kernel_text.specs.File.{numbered};
 ghost use Rattle.st_kernel_text.specs.LinesMachine as machine;
-ghost use Rattle.st_kernel_text.specs.LinesMachine.{beginning, numbered, line_of};
+ghost use Rattle.st_kernel_text.specs.LinesMachine.{beginning, line_of};
 ghost use Rattle.st_kernel_text.specs.ParserMachine.{Gives, steps_of};
 
 use crate::bytes::is_allowed;
@@ -86,21 +88,21 @@ fn are_allowed(line: &[u8]) -> bool
 }
 
 fn is_data_marker(line: &[u8]) -> bool
-    ensures { result ≡ machine.begins_data line.now }
+    ensures { result ≡ file.begins_data line.now }
 {
     is_marker(b"\\begindata", line)
 }
 
 fn is_text_marker(line: &[u8]) -> bool
-    ensures { result ≡ machine.begins_text line.now }
+    ensures { result ≡ file.begins_text line.now }
 {
     is_marker(b"\\begintext", line)
 }
 
 /// Whether a line is a word with blanks around it.
-#[tactic(auto, unfolding(crate::specs::LinesMachine::is_marker))]
+#[tactic(auto, unfolding(crate::specs::File::is_marker))]
 fn is_marker(word: &[u8], line: &[u8]) -> bool
-    ensures { result ≡ machine.is_marker word.now line.now }
+    ensures { result ≡ file.is_marker word.now line.now }
 {
     let rest = skip_blanks(line);
     rest.starts_with(word) && are_blanks(&rest[word.len()..])

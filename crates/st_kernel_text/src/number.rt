@@ -3,6 +3,7 @@
 ghost use Rattle.std.specs.Prelude.{◌≡◌, ◌≤◌, ◌<◌, ◌^◌, length, unsigned_abs};
 ghost use Rattle.st_kernel_text.specs.ValueMachine as spec;
 ghost use Rattle.st_decimal.specs.Value as decimal;
+ghost use Rattle.st_kernel_text.specs.Values as values;
 
 use crate::fault::TextCause;
 use st_dates::read_at_date;
@@ -25,7 +26,7 @@ pub fn read_run(run: &[u8]) -> Option<Dec>
 
 /// What a run that spells no number is called.
 pub fn cause_of_run(run: &[u8]) -> TextCause
-    ensures { result ≡ spec.cause_of_run run.now }
+    ensures { result ≡ values.cause_of_run run.now }
 {
     match run {
         [b'@', ..] => TextCause::BadDate,

@@ -3,6 +3,7 @@
 ghost use Rattle.std.specs.Prelude.{◌≡◌};
 ghost use Rattle.st_kernel_text.specs.ParserMachine as machine;
 ghost use Rattle.st_kernel_text.specs.ParserMachine.{Gives, step_of};
+ghost use Rattle.st_kernel_text.specs.Grammar as grammar;
 ghost use Rattle.st_kernel_text.specs.ValueMachine as values;
 
 use crate::assignment::Mode;
@@ -283,7 +284,7 @@ fn fits(before: &ValueList, value: &Value) -> bool
 }
 
 fn is_same_kind(a: &Value, b: &Value) -> bool
-    ensures { result ≡ values.same_kind a.now b.now }
+    ensures { result ≡ grammar.same_kind a.now b.now }
 {
     match (a, b) {
         (Value::Number(_), Value::Number(_)) | (Value::Text(_), Value::Text(_)) => true,

@@ -1,5 +1,5 @@
 use Rattle.std.proofs.Common.{◌≡◌, drop}
-use Rattle.st_kernel_text.specs.LinesMachine.{numbered}
+use Rattle.st_kernel_text.specs.File.{numbered}
 use Rattle.st_kernel_text.specs.ParserMachine.{steps_of}
 use Rattle.st_kernel_text.proofs.kernel.read_bytes.Given as goal
 
