@@ -1,0 +1,10 @@
+pub mod Bytes
+pub mod DateValue
+pub mod Fault
+pub mod Faults
+pub mod File
+pub mod Grammar
+pub mod LinesMachine
+pub mod ParserMachine
+pub mod ValueMachine
+pub mod Values

@@ -1,0 +1,118 @@
+//! A whole file.
+
+ghost use Rattle.std.specs.Prelude.{◌≡◌};
+ghost use Rattle.st_kernel_text.specs.LinesMachine.{read_of, lines_from};
+ghost use Rattle.st_text.specs.Lines.{lines_of};
+ghost use Rattle.st_kernel_text.specs.ParserMachine.{Answers, Gives};
+
+use crate::assignment_list::AssignmentList;
+use crate::fault::TextFault;
+use crate::kernel::{Kernel, read_line};
+use st_text::{split_line, without_cr};
+use std::alloc::Global;
+
+/// Reads a text kernel.
+pub fn read_kernel(alloc: Global, bytes: &[u8]) -> Result<AssignmentList, TextFault>
+    ensures { Answers result (read_of bytes.now) }
+{
+    let mut kernel = Kernel::new(alloc);
+    read_lines(alloc, &mut kernel, bytes)?;
+    kernel.parser.finish()
+}
+
+/// Reads all lines of a file.
+fn read_lines(alloc: Global, kernel: &mut Kernel, bytes: &[u8]) -> Result<(), TextFault>
+    ensures { Gives kernel.new result (lines_from kernel.old 1 (lines_of bytes.now)) }
+{
+    let mut number = 1;
+    let mut rest = bytes;
+    while !rest.is_empty() {
+        let (line, after) = split_line(rest);
+        read_line(alloc, kernel, number, without_cr(line))?;
+        number += 1;
+        rest = after;
+    }
+    Ok(())
+}
+
+#[cfg(test)]
+mod tests {
+    use super::*;
+    use crate::fault::TextCause;
+    use crate::value::Value;
+    use crate::value_list::ValueList;
+    use crate::{Assignment, Mode};
+    use st_decimal::Dec;
+    use std::test::Fail;
+
+    /// The bytes of values one behind the other, a number as its digits and its power of ten.
+    fn is_number(values: &ValueList, digits: i128, tens: i32) -> bool {
+        match values.as_slice() {
+            [Value::Number(number)] => *number == Dec { digits, tens },
+            _ => false,
+        }
+    }
+
+    fn is_text(values: &ValueList, text: &[u8]) -> bool {
+        match values.as_slice() {
+            [Value::Text(content)] => content.as_slice() == text,
+            _ => false,
+        }
+    }
+
+    fn is_named(assignment: &Assignment, name: &[u8], mode: Mode) -> bool {
+        assignment.name.as_slice() == name && assignment.mode == mode
+    }
+
+    #[test]
+    fn reads_assignments(rt: HostRuntime) -> Result<(), Fail> {
+        let file = b"\\begindata\nX = 'it''s'\nY = -1.5D+2\nZ += @1972-JAN-1\n";
+        let list = read_kernel(rt.alloc(), file)?;
+        match list.as_slice() {
+            [x, y, z] => {
+                assert!(rt; is_named(x, b"X", Mode::Set) && is_text(&x.values, b"it's"));
+                assert!(rt; is_named(y, b"Y", Mode::Set) && is_number(&y.values, -15, 1));
+                assert!(rt; is_named(z, b"Z", Mode::Add) && is_number(&z.values, -883_656, 3));
+            }
+            _ => assert!(rt; false),
+        }
+        let added = read_kernel(rt.alloc(), b"\\begindata\nX+=1")?;
+        match added.as_slice() {
+            [x] => assert!(rt; is_named(x, b"X", Mode::Add) && is_number(&x.values, 1, 0)),
+            _ => assert!(rt; false),
+        }
+        assert!(rt; read_kernel(rt.alloc(), b"")?.is_empty());
+        assert!(rt; read_kernel(rt.alloc(), b"KPL/LSK\nX = (\n")?.is_empty());
+        Ok(())
+    }
+
+    #[test]
+    fn reports_faults(rt: HostRuntime) -> Result<(), Fail> {
+        let table: [(&[u8], u64, TextCause); 12] = [
+            (b"\\begindata\nX = 1E2, 'a'", 2, TextCause::TrailingText),
+            (b"\\begindata\nX = ( )", 2, TextCause::NoValue),
+            (b"\\begindata\nX = ((1)", 2, TextCause::BadNumber),
+            (b"\\begindata\nX", 2, TextCause::NoSign),
+            (b"\\begindata\nX = 'a", 2, TextCause::BadString),
+            (b"\\begindata\nX = @2000-13-01", 2, TextCause::BadDate),
+            (b"\\begindata\nX = 1E401", 2, TextCause::BadNumber),
+            (b"\\begindata\nX = ( 1, 'a' )\n", 2, TextCause::MixedKinds),
+            (b"\\begindata\nX = ( 1,\n", 2, TextCause::Unclosed),
+            (b"\\begindata\nX++=1\n", 2, TextCause::NoName),
+            (b"\\begindata\nX = 1\x7f\n", 2, TextCause::BadByte),
+            (b"\\begindata\nX =\n\\begintext\n", 2, TextCause::NoValue),
+        ];
+        for (file, line, cause) in table {
+            match read_kernel(rt.alloc(), file) {
+                Err(fault) => assert_eq!(rt; fault, TextFault::At { line, cause }),
+                Ok(_) => assert!(rt; false),
+            }
+        }
+        let long = [b'x'; 1001];
+        match read_kernel(rt.alloc(), &long) {
+            Err(fault) => assert_eq!(rt; fault, TextFault::At { line: 1, cause: TextCause::LineTooLong }),
+            Ok(_) => assert!(rt; false),
+        }
+        Ok(())
+    }
+}
