@@ -1,7 +1,7 @@
 -- Refusals and ends of a run that come only with a cause outside: a count of the files or the output that rose.
 use Rattle.std.specs.Prelude.{⊤}
 use Rattle.st_batch.specs.declared.fault.LineFault.{LineFault}
-use Rattle.st_batch.specs.declared.fault.LineFault.TheVariants.{NoFile, FileFault, FileTooLong, NotBuilt, BadTime}
+use Rattle.st_batch.specs.declared.fault.LineFault.TheVariants.{NoFile, FileFault, FileTooLong, KernelText, NotBuilt, BadTime}
 use Rattle.st_batch.specs.declared.setup.SetupFault.{SetupFault}
 use Rattle.st_batch.specs.declared.setup.SetupFault.TheVariants as setup
 use Rattle.st_batch.specs.declared.status.Status.{Status}
@@ -12,6 +12,7 @@ abbrev pub IsCaused : LineFault → Type 0 → Type 0 → Type 0 → Type 0
 IsCaused NoFile Missed Failed Long = Missed
 IsCaused FileFault Missed Failed Long = Failed
 IsCaused FileTooLong Missed Failed Long = Long
+IsCaused (KernelText line cause) Missed Failed Long = ⊤
 IsCaused NotBuilt Missed Failed Long = ⊤
 IsCaused BadTime Missed Failed Long = ⊤
 

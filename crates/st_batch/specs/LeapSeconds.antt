@@ -1,8 +1,14 @@
 -- Leap seconds, by the header of NAIF's leapseconds kernels and the Time Required Reading.
-use Rattle.std.specs.Prelude.{◌≡◌, ℕ, ◌+◌, ◌*◌, ◌≤◌, ℤ, pos, negsuc, ◌+ℤ◌, ◌-ℤ◌, ◌*ℤ◌, ◌≤ℤ◌, ◌<ℤ◌, int_le, List, [], ◌∷◌, length, reverse, find, Option, Some, None}
+use Rattle.std.specs.Prelude.{◌≡◌, ℕ, ◌+◌, ◌*◌, ◌≤◌, ℤ, pos, negsuc, ◌+ℤ◌, ◌-ℤ◌, ◌*ℤ◌, ◌≤ℤ◌, ◌<ℤ◌, int_le, List, [], ◌∷◌, length, codes, reverse, find, Option, Some, None}
+use Rattle.st_dates.specs.AtDate.{moment}
 use Rattle.st_dates.specs.Label.{formal}
 use Rattle.st_dates.specs.declared.label.Label.{Label}
 use Rattle.st_dates.specs.declared.label.TheConstants.{FIRST, LAST}
+use Rattle.st_decimal.specs.Scaling.{IsUnits18, IsWhole}
+use Rattle.st_kernel_text.specs.declared.assignment.Assignment.{Assignment}
+use Rattle.st_kernel_text.specs.declared.value.Value.{Value}
+use Rattle.st_kernel_text.specs.declared.value.Value.TheVariants.{Number, Text}
+use Rattle.st_batch.specs.Variable.{values_of}
 use Rattle.st_batch.specs.declared.leap_seconds.LeapPair.{LeapPair}
 
 -- each pair's date is later than the one before, and its count one more
@@ -11,10 +17,27 @@ Rise [] = Unit {0}
 Rise (p ∷ []) = Unit {0}
 Rise (p ∷ q ∷ pairs) = (p.from <ℤ q.from) × (q.count ≡ p.count + 1) × Rise (q ∷ pairs)
 
--- each count is at most 1,000, and each date lies from 1900-01-01 to 2100-01-01
+-- the formal value is that of the start of a day
+abbrev pub IsMidnight : ℤ → Type 0
+IsMidnight z = (day : ℤ) × (z ≡ moment day 0)
+
+-- the count is at most 1,000, and the date is a midnight from 1900-01-01 to 2100-01-01
+pub record IsInRange (p : LeapPair) : Type 0 where
+  pub count : p.count ≤ 1000
+  pub midnight : IsMidnight p.from
+  pub from : FIRST ≤ℤ p.from
+  pub to : p.from ≤ℤ LAST
+
 abbrev pub AreInRange : List LeapPair → Type 0
 AreInRange [] = Unit {0}
-AreInRange (p ∷ pairs) = (p.count ≤ 1000) × (FIRST ≤ℤ p.from) × (p.from ≤ℤ LAST) × AreInRange pairs
+AreInRange (p ∷ pairs) = IsInRange p × AreInRange pairs
+
+-- the values are the pairs' counts and dates in turn
+abbrev pub SpellPairs : List Value → List LeapPair → Type 0
+SpellPairs [] [] = Unit {0}
+SpellPairs ((Number count) ∷ (Number date) ∷ values) (p ∷ pairs) =
+    IsWhole count (pos p.count) × IsUnits18 date p.from × SpellPairs values pairs
+SpellPairs values pairs = ⊥
 
 -- the pairs are a table of leap seconds: 1 to 1,000 of them, in their ranges, which rise
 pub record IsLeapTable (pairs : List LeapPair) : Type 0 where
@@ -27,6 +50,11 @@ pub record IsLeapTable (pairs : List LeapPair) : Type 0 where
 abbrev pub count_before : List LeapPair → ℤ
 count_before [] = pos 0
 count_before (p ∷ pairs) = pos p.count -ℤ pos 1
+
+-- the kernel's assignments give the table by the values of DELTET/DELTA_AT
+pub record GiveTable (assignments : List Assignment) (table : List LeapPair) : Type 0 where
+  pub spelled : SpellPairs (values_of (codes "DELTET/DELTA_AT") assignments) table
+  pub is_table : IsLeapTable table
 
 -- the last pair whose date is at most a midnight
 abbrev pub last_pair : List LeapPair → ℤ → Option LeapPair

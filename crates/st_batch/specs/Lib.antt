@@ -1,10 +1,10 @@
 pub mod Causes
 pub mod Laws
-pub mod LeapList
-pub mod LeapListMachine
 pub mod LeapSeconds
-pub mod ListDateMachine
+pub mod LeapSecondsMachine
+pub mod LeapTable
 pub mod Load
+pub mod NumbersMachine
 pub mod Outcome
 pub mod Prepared
 pub mod ScanMachine
@@ -13,5 +13,6 @@ pub mod Taken
 pub mod Texts
 pub mod UtcTime
 pub mod UtcTimeMachine
+pub mod Variable
 pub mod Words
 pub mod WordsMachine

@@ -4,18 +4,21 @@ use Rattle.std.specs.Io.KnownBytes.{Appends}
 use Rattle.std.specs.List.{flat_map, list_any}
 use Rattle.st_decimal.specs.Fixed.{fixed}
 use Rattle.st_dates.specs.declared.label.Label.{Label}
+use Rattle.st_kernel_text.specs.File.{Reads}
+use Rattle.st_kernel_text.specs.declared.assignment.Assignment.{Assignment}
+use Rattle.st_kernel_text.specs.declared.fault.TextCause.{TextCause}
+use Rattle.st_kernel_text.specs.declared.fault.TextFault.TheVariants.{At}
 use Rattle.st_outside.specs.Entries.{Entries, bytes_of}
 use Rattle.st_batch.specs.declared.answer.Answer.{Answer}
 use Rattle.st_batch.specs.declared.answer.Answer.TheVariants.{Text, Refused}
 use Rattle.st_batch.specs.declared.fault.WordFault.TheVariants as word
 use Rattle.st_batch.specs.declared.fault.LineFault.{LineFault}
-use Rattle.st_batch.specs.declared.fault.LineFault.TheVariants.{NoFile, FileFault, FileTooLong, NotBuilt, BadTime}
+use Rattle.st_batch.specs.declared.fault.LineFault.TheVariants.{NoFile, FileFault, FileTooLong, KernelText, NotBuilt, BadTime}
 use Rattle.st_batch.specs.declared.leap_seconds.LeapPair.{LeapPair}
 use Rattle.st_batch.specs.declared.load.TheConstants.{MAX_FILE}
 use Rattle.st_batch.specs.declared.status.Status.{Status}
 use Rattle.st_batch.specs.declared.status.Status.TheVariants.{Done, SomeRefused, BadWords, BadSetup, WriteFault, OutOfMemory}
-use Rattle.st_batch.specs.LeapList.{HoldsTable}
-use Rattle.st_batch.specs.LeapSeconds.{tai_of}
+use Rattle.st_batch.specs.LeapSeconds.{GiveTable, tai_of}
 use Rattle.st_batch.specs.Texts.{word_text, refusal_text}
 use Rattle.st_batch.specs.UtcTime.{IsUtcTime}
 use Rattle.st_batch.specs.Words.{AskFor}
@@ -55,17 +58,46 @@ is_refused (Refused cause) = true
 abbrev pub status_of : List Answer → Status
 status_of answers = if list_any is_refused answers then SomeRefused else Done
 
+-- the file of this name is a kernel with these assignments
+pub record HoldsKernel (name : List ℕ) (files : Entries) (assignments : List Assignment) : Type 0 where
+  pub bytes : List ℕ
+  pub has : bytes_of name files ≡ Some bytes
+  pub few : length bytes ≤ MAX_FILE
+  pub reads : Reads bytes (Ok assignments)
+
+-- the file of this name is no kernel, by its first fault
+pub record HoldsFault (name : List ℕ) (files : Entries) (line : ℕ) (cause : TextCause) : Type 0 where
+  pub bytes : List ℕ
+  pub has : bytes_of name files ≡ Some bytes
+  pub few : length bytes ≤ MAX_FILE
+  pub reads : Reads bytes (Err (At line cause))
+
+-- the file of this name is longer than a file may be
+pub record HoldsTooMuch (name : List ℕ) (files : Entries) : Type 0 where
+  pub bytes : List ℕ
+  pub has : bytes_of name files ≡ Some bytes
+  pub long : MAX_FILE < length bytes
+
+-- the file of this name is a kernel without a table of leap seconds
+pub record HoldsNoTable (name : List ℕ) (files : Entries) : Type 0 where
+  pub assignments : List Assignment
+  pub kernel : HoldsKernel name files assignments
+  pub none : (table : List LeapPair) → GiveTable assignments table → ⊥
+
+-- the file of this name is a kernel with this table of leap seconds
+pub record HoldsTable (name : List ℕ) (files : Entries) (table : List LeapPair) : Type 0 where
+  pub assignments : List Assignment
+  pub kernel : HoldsKernel name files assignments
+  pub gives : GiveTable assignments table
+
 -- What the setup file may give: its table, or a refusal. `Fault` is what a refusal by a fault wants.
 abbrev pub SetupGives : Type 0 → List ℕ → Entries → Result (List LeapPair) LineFault → Type 0
-SetupGives Fault name files (Ok table) =
-    (bytes : List ℕ) × (bytes_of name files ≡ Some bytes) × (length bytes ≤ MAX_FILE) × HoldsTable bytes table
+SetupGives Fault name files (Ok table) = HoldsTable name files table
 SetupGives Fault name files (Err NoFile) = bytes_of name files ≡ None
 SetupGives Fault name files (Err FileFault) = Fault
-SetupGives Fault name files (Err FileTooLong) =
-    (bytes : List ℕ) × (bytes_of name files ≡ Some bytes) × (MAX_FILE < length bytes)
-SetupGives Fault name files (Err NotBuilt) =
-    (bytes : List ℕ) × (bytes_of name files ≡ Some bytes) × (length bytes ≤ MAX_FILE)
-    × ((table : List LeapPair) → HoldsTable bytes table → ⊥)
+SetupGives Fault name files (Err FileTooLong) = HoldsTooMuch name files
+SetupGives Fault name files (Err (KernelText line cause)) = HoldsFault name files line cause
+SetupGives Fault name files (Err NotBuilt) = HoldsNoTable name files
 SetupGives Fault name files (Err BadTime) = ⊥
 
 -- the words ask for no conversion

@@ -1,9 +1,12 @@
 -- The texts of refusals and the numbers of statuses, which are this project's own.
-use Rattle.std.specs.Prelude.{ℕ, List, codes}
+use Rattle.std.specs.Prelude.{ℕ, List, ◌∷◌, ◌++◌, codes}
+use Rattle.st_text.specs.Bytes.{decimal_digits}
+use Rattle.st_kernel_text.specs.declared.fault.TextCause.{TextCause}
+use Rattle.st_kernel_text.specs.declared.fault.TextCause.TheVariants.{LineTooLong, NoName, NoSign, NoValue, BadNumber, BadString, BadDate, MixedKinds, Unclosed, BadByte, TrailingText}
 use Rattle.st_batch.specs.declared.fault.WordFault.{WordFault}
 use Rattle.st_batch.specs.declared.fault.WordFault.TheVariants as word
 use Rattle.st_batch.specs.declared.fault.LineFault.{LineFault}
-use Rattle.st_batch.specs.declared.fault.LineFault.TheVariants.{NoFile, FileFault, FileTooLong, NotBuilt, BadTime}
+use Rattle.st_batch.specs.declared.fault.LineFault.TheVariants.{NoFile, FileFault, FileTooLong, KernelText, NotBuilt, BadTime}
 use Rattle.st_batch.specs.declared.status.Status.{Status}
 use Rattle.st_batch.specs.declared.status.Status.TheVariants.{Done, SomeRefused, BadWords, BadSetup, WriteFault, OutOfMemory}
 
@@ -11,11 +14,26 @@ use Rattle.st_batch.specs.declared.status.Status.TheVariants.{Done, SomeRefused,
 abbrev pub word_text : WordFault → List ℕ
 word_text word.NotBuilt = codes "NOT_BUILT"
 
--- the text of a refused setup or line
+-- the name of what breaks in a kernel
+abbrev pub cause_text : TextCause → List ℕ
+cause_text LineTooLong = codes "LINE_TOO_LONG"
+cause_text NoName = codes "NO_NAME"
+cause_text NoSign = codes "NO_SIGN"
+cause_text NoValue = codes "NO_VALUE"
+cause_text BadNumber = codes "BAD_NUMBER"
+cause_text BadString = codes "BAD_STRING"
+cause_text BadDate = codes "BAD_DATE"
+cause_text MixedKinds = codes "MIXED_KINDS"
+cause_text Unclosed = codes "UNCLOSED"
+cause_text BadByte = codes "BAD_BYTE"
+cause_text TrailingText = codes "TRAILING_TEXT"
+
+-- the text of a refused setup or line; 32 is a blank
 abbrev pub refusal_text : LineFault → List ℕ
 refusal_text NoFile = codes "NO_FILE"
 refusal_text FileFault = codes "FILE_FAULT"
 refusal_text FileTooLong = codes "FILE_TOO_LONG"
+refusal_text (KernelText line cause) = codes "KERNEL_TEXT " ++ (decimal_digits line ++ (32 ∷ cause_text cause))
 refusal_text NotBuilt = codes "NOT_BUILT"
 refusal_text BadTime = codes "BAD_TIME"
 

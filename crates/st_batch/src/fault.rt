@@ -1,5 +1,7 @@
 //! Why words or a line are refused.
 
+use st_kernel_text::TextCause;
+
 /// Why the words of the program are refused.
 #[derive(Clone, Copy, Debug, PartialEq, Eq)]
 pub enum WordFault {
@@ -16,7 +18,9 @@ pub enum LineFault {
     FileFault,
     /// The file has more than 16,777,216 bytes.
     FileTooLong,
-    /// The file is no table of leap seconds in the layout that is built.
+    /// The file is no text kernel: the line, from 1, and what breaks there.
+    KernelText { line: u64, cause: TextCause },
+    /// The kernel has no table of leap seconds.
     NotBuilt,
     /// The line is no UTC time.
     BadTime,

@@ -2,7 +2,7 @@
 
 ghost use Rattle.std.specs.Prelude.{◌≡◌, ◌^◌, ◌≤ℤ◌, ◌+ℤ◌, ◌*ℤ◌, neg_ℤ, pos};
 ghost use Rattle.std.specs.List.{list_all};
-ghost use Rattle.st_batch.specs.LeapListMachine as machine;
+ghost use Rattle.st_batch.specs.LeapSecondsMachine as machine;
 ghost use Rattle.st_batch.specs.LeapSeconds.{IsOfDay};
 ghost use Rattle.st_batch.specs.LeapSeconds as table;
 ghost use Rattle.st_dates.specs.Label.{formal};
@@ -12,6 +12,9 @@ use st_dates::{FIRST, LAST, Label, formal_of};
 
 /// The units of 10^-18 s in a second.
 const SECOND: i128 = 1_000_000_000_000_000_000;
+
+/// The units of 10^-18 s in a day of 86,400 s.
+const DAY: i128 = 86_400 * SECOND;
 
 /// The most pairs of a table.
 const MAX_PAIRS: usize = 1000;
@@ -30,7 +33,7 @@ pub struct LeapPair {
 
 /// Whether the pairs are 1 to 1,000, in their ranges, and rise: each date later than the one before, and each
 /// count one more.
-#[tactic(auto, unfolding(crate::specs::LeapListMachine::is_table))]
+#[tactic(auto, unfolding(crate::specs::LeapSecondsMachine::is_table))]
 pub fn is_table(pairs: &[LeapPair]) -> bool
     ensures { result ≡ machine.is_table pairs.now }
 {
@@ -46,7 +49,16 @@ fn are_in_range(pairs: &[LeapPair]) -> bool
 fn is_pair(pair: LeapPair) -> bool
     ensures { result ≡ machine.is_pair pair }
 {
-    pair.count <= MAX_COUNT && FIRST <= pair.from && pair.from <= LAST
+    pair.count <= MAX_COUNT && FIRST <= pair.from && pair.from <= LAST && is_midnight(pair.from)
+}
+
+/// Whether a formal value is that of the start of a day: half a day before a multiple of a day.
+fn is_midnight(formal: i128) -> bool
+    requires from { range.FIRST ≤ℤ formal }
+    requires to { formal ≤ℤ range.LAST }
+    ensures { result ≡ machine.is_midnight formal }
+{
+    (formal + DAY / 2).rem_euclid(DAY) == 0
 }
 
 fn is_rise(pairs: &[LeapPair]) -> bool

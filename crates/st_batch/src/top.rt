@@ -7,7 +7,7 @@ ghost use Rattle.st_batch.specs.Outcome.{Allowed, AskForNone, Outcome, WhereKnow
 ghost use Rattle.st_batch.specs.Prepared.{AnswersLine, Delivers, IsWhole, WordsFit};
 ghost use Rattle.st_batch.specs.Setup.{NamesRefusal};
 
-use crate::answer::{answer_line, put_answer, put_refusal, status_after};
+use crate::answer::{answer_line, put_answer, put_refused, status_after};
 use crate::fault::WordFault;
 use crate::leap_seconds::LeapPair;
 use crate::load::MAX_FILE;
@@ -114,7 +114,7 @@ fn refuse_setup(alloc: Global, fault: SetupFault) -> Result<Prepared, OutOfMemor
     match fault {
         SetupFault::Refused(cause) => {
             let mut output = Vec::new(alloc);
-            put_refusal(&mut output, b"bad setup ", cause)?;
+            put_refused(&mut output, b"bad setup ", cause)?;
             Ok(Prepared {
                 status: Status::BadSetup(cause),
                 output: Line::from_vec(output),

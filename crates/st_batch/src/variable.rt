@@ -1,0 +1,53 @@
+//! The values that a kernel gives a variable.
+
+ghost use Rattle.std.specs.Prelude.{◌≡◌, ◌++◌, ◌&&◌, IsTrue, OnOk, IfOk};
+ghost use Rattle.st_batch.specs.Variable.{values_of};
+ghost use Rattle.st_batch.specs.NumbersMachine as machine;
+ghost use Rattle.st_batch.specs.NumbersMachine.{numbers_in, are_numbers};
+
+use st_decimal::{Dec, OutOfMemory};
+use st_kernel_text::{Assignment, Mode, Value};
+use std::alloc::Global;
+
+/// The numbers among a variable's values.
+#[derive(Debug, Drop)]
+pub struct Numbers {
+    pub list: Vec<Dec>,
+    /// Whether all of the values are numbers.
+    pub all: bool,
+}
+
+/// The numbers among the values of the variable of this name, by the assignments in their order.
+pub fn numbers_of(alloc: Global, name: &[u8], assignments: &[Assignment]) -> Result<Numbers, OutOfMemory>
+    ensures list { IfOk result (λ numbers. numbers.list.items ≡ numbers_in (values_of name.now assignments.now)) }
+    ensures all { IfOk result (λ numbers. numbers.all ≡ are_numbers (values_of name.now assignments.now)) }
+{
+    let mut list = Vec::new(alloc);
+    let mut all = true;
+    for assignment in assignments {
+        if assignment.name.as_slice() == name {
+            if assignment.mode == Mode::Set {
+                list.clear();
+                all = true;
+            }
+            let more = append(&mut list, assignment.values.as_slice())?;
+            all = all && more;
+        }
+    }
+    Ok(Numbers { list, all })
+}
+
+/// Appends the numbers among values, and says whether all of them are numbers.
+fn append(list: &mut Vec<Dec>, values: &[Value]) -> Result<bool, OutOfMemory>
+    ensures list { OnOk result (list.new.items ≡ list.old.items ++ numbers_in values.now) }
+    ensures all { IfOk result (λ all. all ≡ are_numbers values.now) }
+{
+    let mut all = true;
+    for value in values {
+        match value {
+            Value::Number(number) => list.push(*number)?,
+            Value::Text(_) => all = false,
+        }
+    }
+    Ok(all)
+}
