@@ -5,9 +5,9 @@
 #![tactic(auto)]
 
 #[cfg(test)]
-mod files;
-#[cfg(test)]
 mod conversions;
+#[cfg(test)]
+mod files;
 #[cfg(test)]
 mod refusals;
 #[cfg(test)]

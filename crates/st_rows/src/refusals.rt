@@ -71,7 +71,9 @@ fn refused_words(rt: HostRuntime) -> Result<(), Fail> {
     let shapes: [&[&str]; 4] = [
         &[],
         &["-setup", "naif.tls", "-from", "UTC", "-to", "TAI", "-time"],
-        &["-setup", "naif.tls", "-from", "utc", "-to", "TAI", "-time", "x"],
+        &[
+            "-setup", "naif.tls", "-from", "utc", "-to", "TAI", "-time", "x",
+        ],
         &["-setup", "", "-from", "UTC", "-to", "TAI", "-time", "x"],
     ];
     for shape in shapes {
@@ -89,9 +91,24 @@ fn refused_words(rt: HostRuntime) -> Result<(), Fail> {
 /// A call of the files that fails, a call of the output that fails, the status, and the whole output.
 const FAULTS: [(u32, u32, Status, &str); 5] = [
     (0, 0, Status::Done, "32.000000\n"),
-    (1, 0, Status::BadSetup(LineFault::FileFault), "bad setup FILE_FAULT\n"),
-    (2, 0, Status::BadSetup(LineFault::FileFault), "bad setup FILE_FAULT\n"),
-    (3, 0, Status::BadSetup(LineFault::FileFault), "bad setup FILE_FAULT\n"),
+    (
+        1,
+        0,
+        Status::BadSetup(LineFault::FileFault),
+        "bad setup FILE_FAULT\n",
+    ),
+    (
+        2,
+        0,
+        Status::BadSetup(LineFault::FileFault),
+        "bad setup FILE_FAULT\n",
+    ),
+    (
+        3,
+        0,
+        Status::BadSetup(LineFault::FileFault),
+        "bad setup FILE_FAULT\n",
+    ),
     (0, 1, Status::WriteFault, ""),
 ];
 

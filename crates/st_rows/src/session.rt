@@ -18,7 +18,9 @@ pub fn words(alloc: Global, texts: &[&str]) -> Result<Vec<String>, Fail> {
 pub fn to_tai(alloc: Global, time: &str) -> Result<Vec<String>, Fail> {
     words(
         alloc,
-        &["-setup", "naif.tls", "-from", "UTC", "-to", "TAI", "-time", time],
+        &[
+            "-setup", "naif.tls", "-from", "UTC", "-to", "TAI", "-time", time,
+        ],
     )
 }
 
