@@ -1,13 +1,13 @@
 -- The tests of a table of leap seconds, as the code makes them.
-use Rattle.std.specs.Prelude.{ℕ, ◌+◌, Bool, true, ◌&&◌, ◌==◌, nat_le, ℤ, pos, ◌+ℤ◌, int_le, int_lt, int_eq, List, [], ◌∷◌, length}
+use Rattle.std.specs.Prelude.{ℕ, ◌+◌, Bool, true, ◌&&◌, ◌==◌, nat_le, ℤ, pos, ◌+ℤ◌, int_le, int_lt, List, [], ◌∷◌, length}
 use Rattle.std.specs.Int.{int_rem_euclid}
 use Rattle.std.specs.List.{list_all}
 use Rattle.st_dates.specs.declared.label.TheConstants.{FIRST, LAST}
 use Rattle.st_batch.specs.declared.leap_seconds.LeapPair.{LeapPair}
 
--- half a day before a multiple of a day
+-- whether no unit of its day has passed at a formal value
 unfoldable pub is_midnight : ℤ → Bool
-is_midnight z = int_eq (int_rem_euclid (z +ℤ pos 43_200_000_000_000_000_000_000) (pos 86_400_000_000_000_000_000_000)) (pos 0)
+is_midnight z = int_lt (int_rem_euclid (z +ℤ pos 43_200_000_000_000_000_000_000) (pos 86_400_000_000_000_000_000_000)) (pos 1)
 
 -- whether the pair's count and date are in their ranges
 abbrev pub is_pair : LeapPair → Bool

@@ -52,13 +52,14 @@ fn is_pair(pair: LeapPair) -> bool
     pair.count <= MAX_COUNT && FIRST <= pair.from && pair.from <= LAST && is_midnight(pair.from)
 }
 
-/// Whether a formal value is that of the start of a day: half a day before a multiple of a day.
+/// Whether no unit of its day has passed at a formal value.
+#[tactic(auto, unfolding(crate::specs::LeapSecondsMachine::is_midnight))]
 fn is_midnight(formal: i128) -> bool
     requires from { range.FIRST ≤ℤ formal }
     requires to { formal ≤ℤ range.LAST }
     ensures { result ≡ machine.is_midnight formal }
 {
-    (formal + DAY / 2).rem_euclid(DAY) == 0
+    (formal + DAY / 2).rem_euclid(DAY) < 1
 }
 
 fn is_rise(pairs: &[LeapPair]) -> bool

@@ -1,6 +1,6 @@
 //! The table of leap seconds that a kernel's assignments give.
 
-ghost use Rattle.std.specs.Prelude.{◌≡◌, [], ◌∷◌, ◌++◌, Some, IfOk, IfSome, OnOk, IsErrOf, List};
+ghost use Rattle.std.specs.Prelude.{◌≡◌, ◌≤◌, [], ◌∷◌, ◌++◌, length, Some, MatchOption, IfOk, IfSome, OnOk, IsErrOf, List};
 ghost use Rattle.st_batch.specs.LeapSeconds.{GiveTable};
 ghost use Rattle.st_batch.specs.LeapTable.{IsPair, IsTableOf, PairUp};
 ghost use Rattle.st_batch.specs.declared.leap_seconds.LeapPair.{LeapPair};
@@ -69,8 +69,8 @@ fn pairs_of(alloc: Global, numbers: &[Dec]) -> Result<Vec<LeapPair>, TableFault>
 {
     let mut pairs = Vec::new(alloc);
     let mut left = numbers;
-    while let [count, date, rest @ ..] = left {
-        match pair_of(*count, *date) {
+    while let Some((count, date, rest)) = first_two(left) {
+        match pair_of(count, date) {
             Some(pair) => add(&mut pairs, pair)?,
             None => return Err(TableFault::NotTable),
         }
@@ -80,6 +80,16 @@ fn pairs_of(alloc: Global, numbers: &[Dec]) -> Result<Vec<LeapPair>, TableFault>
         Ok(pairs)
     } else {
         Err(TableFault::NotTable)
+    }
+}
+
+/// The first two numbers and the rest, where there are two.
+fn first_two(numbers: &[Dec]) -> Option<(Dec, Dec, &[Dec])>
+    ensures { MatchOption result (length numbers.now ≤ 1) (λ t. numbers.now ≡ t.0 ∷ t.1 ∷ t.2.now) }
+{
+    match numbers {
+        [first, second, rest @ ..] => Some((*first, *second, rest)),
+        _ => None,
     }
 }
 

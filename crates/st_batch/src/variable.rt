@@ -22,19 +22,32 @@ pub fn numbers_of(alloc: Global, name: &[u8], assignments: &[Assignment]) -> Res
     ensures list { IfOk result (λ numbers. numbers.list.items ≡ numbers_in (values_of name.now assignments.now)) }
     ensures all { IfOk result (λ numbers. numbers.all ≡ are_numbers (values_of name.now assignments.now)) }
 {
-    let mut list = Vec::new(alloc);
-    let mut all = true;
+    let mut numbers = Numbers {
+        list: Vec::new(alloc),
+        all: true,
+    };
     for assignment in assignments {
-        if assignment.name.as_slice() == name {
-            if assignment.mode == Mode::Set {
-                list.clear();
-                all = true;
-            }
-            let more = append(&mut list, assignment.values.as_slice())?;
-            all = all && more;
-        }
+        apply(&mut numbers, name, assignment)?;
     }
-    Ok(Numbers { list, all })
+    Ok(numbers)
+}
+
+/// Carries out one assignment, where it is of the variable of this name.
+fn apply(numbers: &mut Numbers, name: &[u8], assignment: &Assignment) -> Result<(), OutOfMemory>
+    ensures list { OnOk result (numbers.new.list.items ≡ machine.list_after name.now assignment.now numbers.old.list.items) }
+    ensures all { OnOk result (numbers.new.all ≡ machine.all_after name.now assignment.now numbers.old.all) }
+{
+    if assignment.name.as_slice() != name {
+        return Ok(());
+    }
+    if assignment.mode == Mode::Set {
+        numbers.list.clear();
+        numbers.all = append(&mut numbers.list, assignment.values.as_slice())?;
+        return Ok(());
+    }
+    let more = append(&mut numbers.list, assignment.values.as_slice())?;
+    numbers.all = numbers.all && more;
+    Ok(())
 }
 
 /// Appends the numbers among values, and says whether all of them are numbers.
