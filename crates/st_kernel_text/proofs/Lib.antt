@@ -1,6 +1,8 @@
 pub mod Heads
+pub mod ReadAll
 pub mod ReadLines
 pub mod ReadValues
+pub mod Rows
 pub mod Runs
 pub mod Seconds
 pub mod States
