@@ -1,3 +1,5 @@
+pub mod Forced
+pub mod Grows
 pub mod Heads
 pub mod ReadAll
 pub mod ReadLines

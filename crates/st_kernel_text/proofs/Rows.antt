@@ -1,5 +1,6 @@
 -- Where a token stands the reader is in the state of that row.
 use Rattle.std.proofs.Common.{inl, inr, ◌⊎◌, ◌≡◌, ℕ, ◌+◌, ◌<◌, ◌≤◌, Bool, true, false, List, [], ◌∷◌, ◌++◌, length, Option, Some, None, Result, Ok, Err, refl, ap, sym, ◌∙◌, subst, arith, append_assoc}
+use Rattle.std.specs.List.{list_all}
 use Rattle.std.proofs.lemmas.List.{append-nil}
 use Rattle.st_text.specs.Bytes.{is_blank}
 use Rattle.st_kernel_text.specs.Faults.{Row, between, behind_name, behind_sign, in_list, behind_values, Stands, StandsBetween, StandsNamed, StandsSigned, StandsListed, StandsClosed}
@@ -116,7 +117,7 @@ named_on done word blanks t h e [] i =
 named_on done word blanks t h e (b ∷ bs) i =
     whole t (naming Named done (plain h.word))
       (e ∙ ap (λ (z : Data). steps_of (naming Name done (plain h.word)) (z ++ [])) i
-        ∙ blanks_read done (plain h.word) b bs [] h.name_is (subst (λ (z : Data). Rattle.std.specs.List.list_all is_blank (plain z) ≡ true) i h.are_blanks))
+        ∙ blanks_read done (plain h.word) b bs [] h.name_is (subst (λ (z : Data). list_all is_blank (plain z) ≡ true) i h.are_blanks))
 
 pub row_read : (row : Row) (t : Data) → Stands row t [] → ReadsOn t
 row_read between t h = let r = between_read t [] h in whole t (fresh r.done) r.is
