@@ -1,6 +1,8 @@
 pub mod Forced
 pub mod Grows
 pub mod Heads
+pub mod Live
+pub mod LiveNames
 pub mod ReadAll
 pub mod ReadLines
 pub mod ReadValues
