@@ -3,6 +3,7 @@ pub mod Grows
 pub mod Heads
 pub mod Live
 pub mod LiveNames
+pub mod LiveValues
 pub mod ReadAll
 pub mod ReadLines
 pub mod ReadValues
