@@ -3,6 +3,7 @@ pub mod Grows
 pub mod Heads
 pub mod Live
 pub mod LiveNames
+pub mod LiveTokens
 pub mod LiveValues
 pub mod ReadAll
 pub mod ReadLines

@@ -77,7 +77,7 @@ listed_breaks t rest p n cause h b v = record {
     whole = refl
   }
 
-value_breaks : (t rest : Data) (p : Parser) (n : ℕ) (cause : TextCause) → Waits t p → OpensValue rest → HasBadValue rest n cause → HasFault (t ++ rest) n cause
+pub value_breaks : (t rest : Data) (p : Parser) (n : ℕ) (cause : TextCause) → Waits t p → OpensValue rest → HasBadValue rest n cause → HasFault (t ++ rest) n cause
 value_breaks t rest p n cause (waits_signed h) o v = signed_breaks t rest p n cause h (without_before rest o) v
 value_breaks t rest p n cause (waits_listed h) o v = listed_breaks t rest p n cause h (without_follow rest o) v
 
