@@ -11,5 +11,6 @@ pub mod ReadValues
 pub mod Rows
 pub mod Runs
 pub mod Seconds
+pub mod Settled
 pub mod States
 pub mod Strip

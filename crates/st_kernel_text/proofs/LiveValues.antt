@@ -53,7 +53,7 @@ without_follow : (rest : Data) → OpensValue rest → BeginsWithout may_follow 
 without_follow [] h = absurd h
 without_follow (b ∷ rest) h = opens_follow b.1 h
 
-listed_stands : (t : Data) (p : Parser) → (h : IsListed t p) → StandsListed h.opened h.values t
+pub listed_stands : (t : Data) (p : Parser) → (h : IsListed t p) → StandsListed h.opened h.values t
 listed_stands t p h =
     record { sign_line = h.line; front = h.front; items = h.items; signed = head_stands h.done h.name h.mode h.line h.front h.head; kind = h.kind; spells = h.spells; whole = h.whole }
 
