@@ -1,6 +1,8 @@
+pub mod FileLaws
 pub mod Forced
 pub mod Grows
 pub mod Heads
+pub mod LineLaws
 pub mod Live
 pub mod LiveNames
 pub mod LiveTokens

@@ -33,7 +33,7 @@ pub settles : (q : Parser) → is_settled q.stage ≡ true → Settles (Ok q)
 unfolding Settles
 settles q h = h
 
-settles_not : (f : Fault) → Settles (Err f)
+pub settles_not : (f : Fault) → Settles (Err f)
 unfolding Settles
 settles_not f = tt
 
