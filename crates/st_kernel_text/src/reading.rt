@@ -1,9 +1,12 @@
 //! A whole file.
 
-ghost use Rattle.std.specs.Prelude.{◌≡◌};
-ghost use Rattle.st_kernel_text.specs.LinesMachine.{read_of, lines_from};
+ghost use Rattle.std.specs.Prelude.{◌≡◌, List, Result};
 ghost use Rattle.st_text.specs.Lines.{lines_of};
+ghost use Rattle.st_kernel_text.specs.File.{Reads, Agree};
+ghost use Rattle.st_kernel_text.specs.LinesMachine.{read_of, lines_from};
 ghost use Rattle.st_kernel_text.specs.ParserMachine.{Answers, Gives};
+ghost use Rattle.st_kernel_text.specs.declared.assignment.Assignment.{Assignment as Item};
+ghost use Rattle.st_kernel_text.specs.declared.fault.TextFault.{TextFault as Fault};
 
 use crate::assignment_list::AssignmentList;
 use crate::fault::TextFault;
@@ -11,8 +14,19 @@ use crate::kernel::{Kernel, read_line};
 use st_text::{split_line, without_cr};
 use std::alloc::Global;
 
-/// Reads a text kernel.
+/// Reads a text kernel: the assignments of its data in order, or the first fault and its line.
+///
+/// Lines are counted from 1 over the whole file. In each line its length comes first, then, in data,
+/// its bytes, then its tokens from left to right. That the data end behind a sign or in a list comes
+/// last, with the line of the sign or of the `(`.
 pub fn read_kernel(alloc: Global, bytes: &[u8]) -> Result<AssignmentList, TextFault>
+    ensures reads { Reads bytes.now result }
+    ensures only { (answer : Result (List Item) Fault) → Reads bytes.now answer → Agree result answer }
+{
+    read(alloc, bytes)
+}
+
+fn read(alloc: Global, bytes: &[u8]) -> Result<AssignmentList, TextFault>
     ensures { Answers result (read_of bytes.now) }
 {
     let mut kernel = Kernel::new(alloc);
