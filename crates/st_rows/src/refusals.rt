@@ -36,31 +36,116 @@ fn refused_times(rt: HostRuntime) -> Result<(), Fail> {
     Ok(())
 }
 
-/// Setup files that hold no table of leap seconds in the layout of `naif.tls`.
-const NO_TABLES: [&str; 8] = [
+/// Setup files that are kernels without a table of leap seconds.
+const NO_TABLES: [&str; 11] = [
     "",
     "\\begintext\nDELTET/DELTA_AT = ( 10, @1972-JAN-1 )\n",
-    "\\begindata\nDELTET/DELTA_AT = ( 10, @1972-JAN-1\n",
-    "\\begindata\nDELTET/DELTA_AT = ( 10, @1972-JAN-1 )\nDELTET/DELTA_AT = ( 10, @1972-JAN-1 )\n",
-    "\\begindata\nDELTET/DELTA_AT = ( 10, @1972-JAN-1\n 12, @1972-JUL-1 )\n",
-    "\\begindata\nDELTET/DELTA_AT = ( 10, @1972-JUL-1\n 11, @1972-JAN-1 )\n",
+    "\\begindata\ndeltet/delta_at = ( 10, @1972-JAN-1 )\n",
+    "\\begindata\nDELTET/DELTA_AT = ( 10, @1972-JAN-1, 11 )\n",
+    "\\begindata\nDELTET/DELTA_AT = ( '10', '1972-JAN-1' )\n",
+    "\\begindata\nDELTET/DELTA_AT = ( 10, @1972-JAN-1 )\nDELTET/DELTA_AT = 10\n",
+    "\\begindata\nDELTET/DELTA_AT = ( 10, @1972-JAN-1 12, @1972-JUL-1 )\n",
+    "\\begindata\nDELTET/DELTA_AT = ( 10, @1972-JUL-1 11, @1972-JAN-1 )\n",
+    "\\begindata\nDELTET/DELTA_AT = ( 10, @1972-JAN-1T6:00 )\n",
     "\\begindata\nDELTET/DELTA_AT = ( 1001, @1972-JAN-1 )\n",
-    "\\begindata\nDELTET/DELTA_AT = ( 10, @1972-FEB-30 )\n",
+    "\\begindata\nDELTET/DELTA_AT = ( 10.5, @1972-JAN-1 )\n",
+];
+
+/// The whole output for a setup file of these bytes, and the status.
+fn answered(rt: &HostRuntime, setup: &[u8]) -> Result<(Status, Vec<u8>), Fail> {
+    let alloc = rt.alloc();
+    let words = to_tai(alloc, "2000-01-01T12:00:00")?;
+    let mut map = FileMap::new(alloc);
+    map.put(b"naif.tls", Vec::from_slice(alloc, setup)?)?;
+    let mut kernels = SafeFiles::new(map);
+    let mut input = SafeSource::new(Vec::new(alloc));
+    let mut out = SafeSink::new(alloc);
+    let status = run(alloc, words.as_slice(), &mut kernels, &mut input, &mut out);
+    Ok((status, Vec::from_slice(alloc, out.bytes())?))
+}
+
+#[test]
+fn setups_without_a_table(rt: HostRuntime) -> Result<(), Fail> {
+    for setup in NO_TABLES {
+        let (status, output) = answered(&rt, setup.as_bytes())?;
+        assert_eq!(rt; status, Status::BadSetup(LineFault::NotBuilt), "{setup}");
+        assert_eq!(rt;
+            output.as_slice(),
+            b"bad setup NOT_BUILT\n".as_slice(),
+            "{setup}"
+        );
+    }
+    Ok(())
+}
+
+/// Setup files that are no kernels, and the whole output.
+const NO_KERNELS: [(&str, &str); 10] = [
+    (
+        "\\begindata\nX = 1\x07\n",
+        "bad setup KERNEL_TEXT 2 BAD_BYTE\n",
+    ),
+    ("\\begindata\n( 1 )\n", "bad setup KERNEL_TEXT 2 NO_NAME\n"),
+    ("\\begindata\n\nX 1\n", "bad setup KERNEL_TEXT 3 NO_SIGN\n"),
+    (
+        "\\begindata\nX = ( )\n",
+        "bad setup KERNEL_TEXT 2 NO_VALUE\n",
+    ),
+    (
+        "\\begindata\nX = 1.5.\n",
+        "bad setup KERNEL_TEXT 2 BAD_NUMBER\n",
+    ),
+    (
+        "\\begindata\nX = 'it\n",
+        "bad setup KERNEL_TEXT 2 BAD_STRING\n",
+    ),
+    (
+        "\\begindata\nDELTET/DELTA_AT = ( 10,\n@1972-FEB-30 )\n",
+        "bad setup KERNEL_TEXT 3 BAD_DATE\n",
+    ),
+    (
+        "\\begindata\nX = ( 1, 'a' )\n",
+        "bad setup KERNEL_TEXT 2 MIXED_KINDS\n",
+    ),
+    (
+        "\\begindata\nDELTET/DELTA_AT = ( 10, @1972-JAN-1\n",
+        "bad setup KERNEL_TEXT 2 UNCLOSED\n",
+    ),
+    (
+        "text\n\\begindata\nX = 1 2\n",
+        "bad setup KERNEL_TEXT 3 TRAILING_TEXT\n",
+    ),
 ];
 
 #[test]
-fn refused_setups(rt: HostRuntime) -> Result<(), Fail> {
-    let alloc = rt.alloc();
-    for text in NO_TABLES {
-        let words = to_tai(alloc, "2000-01-01T12:00:00")?;
-        let mut map = FileMap::new(alloc);
-        map.put(b"naif.tls", Vec::from_slice(alloc, text.as_bytes())?)?;
-        let mut kernels = SafeFiles::new(map);
-        let mut input = SafeSource::new(Vec::new(alloc));
-        let mut out = SafeSink::new(alloc);
-        let status = run(alloc, words.as_slice(), &mut kernels, &mut input, &mut out);
-        assert_eq!(rt; status, Status::BadSetup(LineFault::NotBuilt), "{text}");
-        assert_eq!(rt; out.bytes(), b"bad setup NOT_BUILT\n".as_slice(), "{text}");
+fn setups_that_are_no_kernels(rt: HostRuntime) -> Result<(), Fail> {
+    for (setup, wanted) in NO_KERNELS {
+        let (status, output) = answered(&rt, setup.as_bytes())?;
+        assert!(rt; matches!(status, Status::BadSetup(_)), "{setup}");
+        assert_eq!(rt; output.as_slice(), wanted.as_bytes(), "{setup}");
+    }
+    let long = vec![in rt.alloc(); b'x'; 1001]?;
+    let (_, output) = answered(&rt, long.as_slice())?;
+    assert_eq!(rt;
+        output.as_slice(),
+        b"bad setup KERNEL_TEXT 1 LINE_TOO_LONG\n".as_slice()
+    );
+    Ok(())
+}
+
+/// Setup files with a table of one pair, 10 s from 1972, and more around it.
+const TABLES: [&str; 4] = [
+    "\\begindata\nDELTET/DELTA_AT = ( 10, @1972-JAN-1 )",
+    "\\begindata\nDELTET/DELTA_AT = 10\nDELTET/DELTA_AT += @1972-01-01\n",
+    "\\begindata\nDELTET/DELTA_AT = 'none'\nX = 1\nDELTET/DELTA_AT = ( 1.0E1 @1-JAN-1972/00:00:00 )\n",
+    "\\begindata\nDELTET/DELTA_AT = ( 10,\n\\begintext\n)\n\\begindata\n@1972-JAN-1 )\n",
+];
+
+#[test]
+fn setups_with_a_table(rt: HostRuntime) -> Result<(), Fail> {
+    for setup in TABLES {
+        let (status, output) = answered(&rt, setup.as_bytes())?;
+        assert_eq!(rt; status, Status::Done, "{setup}");
+        assert_eq!(rt; output.as_slice(), b"10.000000\n".as_slice(), "{setup}");
     }
     Ok(())
 }
