@@ -6,7 +6,8 @@ use Rattle.std.proofs.lemmas.Bool.Decides.{nat_tests}
 use Rattle.std.proofs.lemmas.Int.{ints}
 use Rattle.std.specs.Int.{w64}
 use Rattle.st_decimal.specs.declared.number.Dec.{Dec}
-use Rattle.st_decimal.specs.Scaling.{IsTimesTen, IsUnits18, IsWhole, IsSizeTimesTen, with_sign_of}
+use Rattle.st_decimal.specs.Scaling.{IsTimesTen, IsUnits18, IsWhole}
+use Rattle.st_decimal.specs.ScalingMachine.{IsSizeTimesTen, with_sign_of}
 use Rattle.st_decimal.proofs.ScalingLaws.{power_some, lowered_part, lowered_whole, with_sign, size_of_times, sign_of_times, size_with_sign}
 
 one-factor : (m n p : ℕ) → 0 < p → m * p ≡ n * p → m ≡ n

@@ -7,7 +7,8 @@ use Rattle.std.proofs.lemmas.Bool.{cases_lt, ltb-true}
 use Rattle.std.proofs.lemmas.Int.{unsigned_abs-mul}
 use Rattle.std.specs.Int.Signed.{lt_z}
 use Rattle.std.specs.Prelude.{true, unsigned_abs, MatchOption}
-use Rattle.st_decimal.specs.Scaling.{IsTimesTen, IsSizeTimesTen, with_sign_of}
+use Rattle.st_decimal.specs.Scaling.{IsTimesTen}
+use Rattle.st_decimal.specs.ScalingMachine.{IsSizeTimesTen, with_sign_of}
 
 pub power_some : (k : ℕ) → 0 < 10 ^ k
 power_some k = omega (arith, one-le-pow k 10 (omega arith))

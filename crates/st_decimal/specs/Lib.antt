@@ -2,4 +2,5 @@ pub mod Fixed
 pub mod Number
 pub mod NumberMachine
 pub mod Scaling
+pub mod ScalingMachine
 pub mod Value

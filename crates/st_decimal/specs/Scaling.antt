@@ -1,5 +1,5 @@
 -- A decimal's value as a count of a unit, or as a whole number.
-use Rattle.std.specs.Prelude.{◌≡◌, ℕ, zero, suc, ℤ, pos, negsuc, ◌+ℤ◌, ◌*ℤ◌, ◌*◌, ◌^◌, ◌<◌, unsigned_abs, FitsSigned}
+use Rattle.std.specs.Prelude.{◌≡◌, suc, ℤ, pos, negsuc, ◌+ℤ◌, ◌*ℤ◌, ◌^◌, ◌<◌, unsigned_abs, FitsSigned}
 use Rattle.std.specs.Int.{w64}
 use Rattle.st_decimal.specs.declared.number.Dec.{Dec}
 
@@ -17,14 +17,3 @@ pub record IsUnits18 (d : Dec) (u : ℤ) : Type 0 where
 pub record IsWhole (d : Dec) (n : ℤ) : Type 0 where
   pub value : IsTimesTen d.digits d.tens n
   pub fits : FitsSigned w64 n
-
--- the same of magnitudes
-abbrev pub IsSizeTimesTen : ℕ → ℤ → ℕ → Type 0
-IsSizeTimesTen size (pos k) m = m ≡ size * 10 ^ k
-IsSizeTimesTen size (negsuc k) m = m * 10 ^ suc k ≡ size
-
--- a magnitude with the sign of n
-abbrev pub with_sign_of : ℤ → ℕ → ℤ
-with_sign_of (pos n) m = pos m
-with_sign_of (negsuc n) zero = pos 0
-with_sign_of (negsuc n) (suc m) = negsuc m

@@ -7,16 +7,19 @@ use Rattle.st_decimal.specs.declared.number.DecFault.{DecFault}
 use Rattle.st_decimal.specs.declared.number.DecFault.TheVariants.{Empty, BadByte, TooManyDigits, BadExponent}
 use Rattle.st_decimal.specs.Number.{Parts, Exponent, AreParts, StopsAt, spelling, decimals_of}
 
+-- the digit 0
 abbrev pub is_zero : ℕ → Bool
 is_zero b = b == 48
 
 abbrev pub are_zeros : List ℕ → Bool
 are_zeros digits = list_all is_zero digits
 
+-- the digits from the first on that is not 0
 abbrev pub skip_zeros : List ℕ → List ℕ
 skip_zeros [] = []
 skip_zeros (b ∷ bs) = if is_zero b then skip_zeros bs else b ∷ bs
 
+-- the digits up to the last that is not 0
 abbrev pub without_end_zeros : List ℕ → List ℕ
 without_end_zeros [] = []
 without_end_zeros (b ∷ bs) = if are_zeros (b ∷ bs) then [] else b ∷ without_end_zeros bs
@@ -29,10 +32,12 @@ digits_of p = p.whole ++ decimals_of p.decimals
 abbrev pub significant : List ℕ → ℕ
 significant digits = length (skip_zeros (without_end_zeros digits))
 
+-- whether a text begins with `-`
 abbrev pub is_minus : List ℕ → Bool
 is_minus [] = false
 is_minus (b ∷ more) = b == 45
 
+-- a magnitude with its sign
 abbrev pub signed : Bool → ℕ → ℤ
 signed true n = neg_ℤ (pos n)
 signed false n = pos n

@@ -1,7 +1,7 @@
 use Rattle.std.proofs.Common.{arith, rules, ap, ◌*◌, ◌^◌, ℕ, ℤ, subst, sym, ◌∙◌}
 use Rattle.std.proofs.lemmas.Int.{to_z-of_z}
 use Rattle.std.specs.Int.{w64}
-use Rattle.st_decimal.specs.Scaling.{IsSizeTimesTen}
+use Rattle.st_decimal.specs.ScalingMachine.{IsSizeTimesTen}
 use Rattle.st_decimal.proofs.ScalingLaws.{zero_size, lowered_only, negative_size}
 use Rattle.st_decimal.proofs.scaling.size_times_ten.Goals as goal
 

@@ -2,7 +2,8 @@ use Rattle.std.proofs.Common.{rules, ap, ℕ, ℤ, Some, to_z, of_z, subst, sym,
 use Rattle.std.proofs.lemmas.Int.{to_z-of_z}
 use Rattle.std.specs.Int.{w64, w128}
 use Rattle.std.specs.Prelude.{unsigned_abs}
-use Rattle.st_decimal.specs.Scaling.{IsTimesTen, IsSizeTimesTen, with_sign_of}
+use Rattle.st_decimal.specs.Scaling.{IsTimesTen}
+use Rattle.st_decimal.specs.ScalingMachine.{IsSizeTimesTen, with_sign_of}
 use Rattle.st_decimal.proofs.ScalingLaws.{size_of_times, sign_of_times, same_some}
 use Rattle.st_decimal.proofs.scaling.times_ten.Goals as goal
 
