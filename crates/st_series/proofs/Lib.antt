@@ -14,3 +14,5 @@ pub mod Apart
 pub mod Lipschitz
 pub mod Narrow
 pub mod Values
+pub mod Rounded
+pub mod SmallBounds

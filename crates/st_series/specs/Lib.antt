@@ -1,2 +1,4 @@
 pub mod Series
 pub mod Laws
+pub mod Small
+pub mod Enclosed

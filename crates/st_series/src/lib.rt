@@ -1,5 +1,9 @@
-//! Sine and cosine of fractions of whole numbers, by the partial sums of their series, and the laws on which
-//! enclosures of them stand. There is no real number: `specs/Series.antt` has the definitions.
+//! Sine and cosine of fractions of whole numbers, by the partial sums of their series; the laws on which enclosures of
+//! them stand; and enclosures of sine and cosine of small angles. There is no real number: `specs/Series.antt` has the
+//! definitions.
 #![tactic(auto)]
 
 pub mod laws;
+mod small;
+
+pub use small::sin_cos_small;
