@@ -47,18 +47,21 @@ bad_run : (t front word : Data) (q : Parser) (n b : ℕ) → Waits front q → 0
     → (rest : Data) → HasFault (t ++ ((n, b) ∷ rest)) n (cause_of_run (plain word))
 bad_run t front word q n b waits some bytes w byte none rest =
     subst (λ (z : Data). HasFault z n (cause_of_run (plain word)))
-      (sym (ap (λ (z : Data). z ++ ((n, b) ∷ rest)) w ∙ append_assoc front word ((n, b) ∷ rest)))
-      (value_breaks front (word ++ ((n, b) ∷ rest)) q n (cause_of_run (plain word)) waits (opens_run word ((n, b) ∷ rest) some bytes)
-        (inl (no_quote_first word ((n, b) ∷ rest) some bytes, record {
-          word = word;
-          byte = b;
-          more = rest;
-          bytes = bytes;
-          longest = byte;
-          none = none;
-          cause_is = refl;
-          whole = refl
-        })))
+    (sym (ap (λ (z : Data). z ++ ((n, b) ∷ rest)) w ∙ append_assoc front word ((n, b) ∷ rest)))
+    (value_breaks front (word ++ ((n, b) ∷ rest)) q n (cause_of_run (plain word)) waits (opens_run word ((n, b) ∷ rest) some bytes)
+    (inl (
+      no_quote_first word ((n, b) ∷ rest) some bytes,
+      record {
+        word = word;
+        byte = b;
+        more = rest;
+        bytes = bytes;
+        longest = byte;
+        none = none;
+        cause_is = refl;
+        whole = refl;
+      },
+    )))
 
 run_stop : (b : ℕ) → is_run_byte b ≡ false → ((b == 40) || (b == 39)) ≡ false → may_follow b ≡ true
 unfolding is_run_byte
@@ -71,51 +74,51 @@ taken t front word q n b waits some bytes w byte f None e =
     breaks_off t n b _ (bad_run t front word q n b waits some bytes w byte (λ g. run_none (plain word) e))
 taken t front word q n b waits some bytes w byte f (Some d) e =
     subst (Outcome t n b) (sym (put_same q Run (plain word) (Number d) n b))
-      (put_value t front word q (Number d) n b waits (record { bytes = bytes; reads = run_reads (plain word) d e }) f w)
+    (put_value t front word q (Number d) n b waits (record { bytes = bytes; reads = run_reads (plain word) d e }) f w)
 
 on_run : (t front word : Data) (q : Parser) (n b : ℕ) → Waits front q → 0 < length (plain word) → list_all is_run_byte (plain word) ≡ true
     → t ≡ front ++ word → Outcome t n b (step_of (in_run q (plain word)) n b)
 unfolding step_of
 on_run t front word q n b waits some bytes w =
     cond_both (is_run_byte b) _ _ (Outcome t n b)
-      (λ byte. goes_on t n b (in_run q (plain word ++ b ∷ [])) (live_run (record {
-        state = q;
-        front = front;
-        word = word ++ (n, b) ∷ [];
-        is = ap (in_run q) (sym (plain-append word ((n, b) ∷ [])));
-        waits = waits;
-        some = run_more_some word (n, b);
-        bytes = all_more is_run_byte word n b bytes byte;
-        whole = ap (λ (z : Data). z ++ (n, b) ∷ []) w ∙ append_assoc front word ((n, b) ∷ [])
-      })))
-      (λ byte. cond_both ((b == 40) || (b == 39)) _ _ (Outcome t n b)
-        (λ stop. breaks_off t n b _ (bad_run t front word q n b waits some bytes w byte
-          (λ f d r. both_ways _ (follow_no_stop b f) stop)))
-        (λ stop. taken t front word q n b waits some bytes w byte (run_stop b byte stop) (number_of_run (plain word)) refl))
+    (λ byte. goes_on t n b (in_run q (plain word ++ b ∷ [])) (live_run (record {
+      state = q;
+      front = front;
+      word = word ++ (n, b) ∷ [];
+      is = ap (in_run q) (sym (plain-append word ((n, b) ∷ [])));
+      waits = waits;
+      some = run_more_some word (n, b);
+      bytes = all_more is_run_byte word n b bytes byte;
+      whole = ap (λ (z : Data). z ++ (n, b) ∷ []) w ∙ append_assoc front word ((n, b) ∷ []);
+    })))
+    (λ byte. cond_both ((b == 40) || (b == 39)) _ _ (Outcome t n b)
+    (λ stop. breaks_off t n b _ (bad_run t front word q n b waits some bytes w byte
+    (λ f d r. both_ways _ (follow_no_stop b f) stop)))
+    (λ stop. taken t front word q n b waits some bytes w byte (run_stop b byte stop) (number_of_run (plain word)) refl))
 
 -- strings
 text_breaks : (t front text : Data) (q : Parser) (k n b : ℕ) (content : List ℕ) → Waits front q → IsContent content → plain text ≡ quoted content
     → t ≡ front ++ ((k, 39) ∷ text) → (b ≡ 10) ⊎ ((length content ≡ 80) × ((b == 39) ≡ false)) → (rest : Data) → HasFault (t ++ ((n, b) ∷ rest)) n BadString
 text_breaks t front text q k n b content waits c e w how rest =
     subst (λ (z : Data). HasFault z n BadString)
-      (sym (ap (λ (z : Data). z ++ ((n, b) ∷ rest)) w ∙ append_assoc front ((k, 39) ∷ text) ((n, b) ∷ rest)))
-      (value_breaks front ((k, 39) ∷ (text ++ ((n, b) ∷ rest))) q n BadString waits (or_right _ _ refl)
-        (inr (refl, inl (record { opened = k; content = content; text = text; byte = b; more = rest; content_is = c; written = e; breaks = how; whole = refl }))))
+    (sym (ap (λ (z : Data). z ++ ((n, b) ∷ rest)) w ∙ append_assoc front ((k, 39) ∷ text) ((n, b) ∷ rest)))
+    (value_breaks front ((k, 39) ∷ (text ++ ((n, b) ∷ rest))) q n BadString waits (or_right _ _ refl)
+    (inr (refl, inl (record { opened = k; content = content; text = text; byte = b; more = rest; content_is = c; written = e; breaks = how; whole = refl }))))
 
 quote_breaks : (t front text : Data) (q : Parser) (k n b : ℕ) (content : List ℕ) → Waits front q → IsContent content → plain text ≡ quoted content ++ 39 ∷ []
     → t ≡ front ++ ((k, 39) ∷ text) → ((b ≡ 39) × (length content ≡ 80)) ⊎ (((b == 39) ≡ false) × (may_follow b ≡ false))
     → (rest : Data) → HasFault (t ++ ((n, b) ∷ rest)) n BadString
 quote_breaks t front text q k n b content waits c e w how rest =
     subst (λ (z : Data). HasFault z n BadString)
-      (sym (ap (λ (z : Data). z ++ ((n, b) ∷ rest)) w ∙ append_assoc front ((k, 39) ∷ text) ((n, b) ∷ rest)))
-      (value_breaks front ((k, 39) ∷ (text ++ ((n, b) ∷ rest))) q n BadString waits (or_right _ _ refl)
-        (inr (refl, inr (record { opened = k; content = content; text = text; byte = b; more = rest; content_is = c; written = e; breaks = how; whole = refl }))))
+    (sym (ap (λ (z : Data). z ++ ((n, b) ∷ rest)) w ∙ append_assoc front ((k, 39) ∷ text) ((n, b) ∷ rest)))
+    (value_breaks front ((k, 39) ∷ (text ++ ((n, b) ∷ rest))) q n BadString waits (or_right _ _ refl)
+    (inr (refl, inr (record { opened = k; content = content; text = text; byte = b; more = rest; content_is = c; written = e; breaks = how; whole = refl }))))
 
 content_more : (content : List ℕ) (b : ℕ) → IsContent content → nat_lt (length content) 80 ≡ true → (b == 10) ≡ false → IsContent (content ++ b ∷ [])
 content_more content b c h e = record {
-    most = omega (arith, length_push content b, ltb-true (length content) 80 h);
-    one_line = list_all-append is_no_line_end content (b ∷ []) ∙ and_from _ _ c.one_line (and_from _ _ (not_from_false _ e) refl)
-  }
+  most = omega (arith, length_push content b, ltb-true (length content) 80 h);
+  one_line = list_all-append is_no_line_end content (b ∷ []) ∙ and_from _ _ c.one_line (and_from _ _ (not_from_false _ e) refl);
+}
 
 full : (content : List ℕ) → IsContent content → nat_lt (length content) 80 ≡ false → length content ≡ 80
 full content c h = omega (arith, c.most, ltb-false (length content) 80 h)
@@ -128,62 +131,62 @@ on_text : (t front text : Data) (q : Parser) (k n b : ℕ) (content : List ℕ) 
 unfolding step_of
 on_text t front text q k n b content waits c e w =
     cond_both (b == 39) _ _ (Outcome t n b)
-      (λ quote. goes_on t n b (at_quote q content) (live_quote (record {
-        state = q;
-        front = front;
-        line = k;
-        text = text ++ (n, b) ∷ [];
-        content = content;
-        is = refl;
-        waits = waits;
-        content_is = c;
-        written = plain-append text ((n, b) ∷ []) ∙ ap (λ (z : List ℕ). z ++ b ∷ []) e ∙ ap (λ (z : ℕ). quoted content ++ z ∷ []) (eqb-true b 39 quote);
-        whole = text_longer t front text k n b w
-      })))
-      (λ quote. cond_both (b == 10) _ _ (Outcome t n b)
-        (λ end. breaks_off t n b _ (text_breaks t front text q k n b content waits c e w (inl (eqb-true b 10 end))))
-        (λ end. cond_both (nat_lt (length content) 80) _ _ (Outcome t n b)
-          (λ room. goes_on t n b (in_text q (content ++ b ∷ [])) (live_text (record {
-            state = q;
-            front = front;
-            line = k;
-            text = text ++ (n, b) ∷ [];
-            content = content ++ b ∷ [];
-            is = refl;
-            waits = waits;
-            content_is = content_more content b c room end;
-            written = plain-append text ((n, b) ∷ []) ∙ ap (λ (z : List ℕ). z ++ b ∷ []) e ∙ sym (quoted_byte content b quote);
-            whole = text_longer t front text k n b w
-          })))
-          (λ room. breaks_off t n b _ (text_breaks t front text q k n b content waits c e w (inr (full content c room, quote))))))
+    (λ quote. goes_on t n b (at_quote q content) (live_quote (record {
+      state = q;
+      front = front;
+      line = k;
+      text = text ++ (n, b) ∷ [];
+      content = content;
+      is = refl;
+      waits = waits;
+      content_is = c;
+      written = plain-append text ((n, b) ∷ []) ∙ ap (λ (z : List ℕ). z ++ b ∷ []) e ∙ ap (λ (z : ℕ). quoted content ++ z ∷ []) (eqb-true b 39 quote);
+      whole = text_longer t front text k n b w;
+    })))
+    (λ quote. cond_both (b == 10) _ _ (Outcome t n b)
+    (λ end. breaks_off t n b _ (text_breaks t front text q k n b content waits c e w (inl (eqb-true b 10 end))))
+    (λ end. cond_both (nat_lt (length content) 80) _ _ (Outcome t n b)
+    (λ room. goes_on t n b (in_text q (content ++ b ∷ [])) (live_text (record {
+      state = q;
+      front = front;
+      line = k;
+      text = text ++ (n, b) ∷ [];
+      content = content ++ b ∷ [];
+      is = refl;
+      waits = waits;
+      content_is = content_more content b c room end;
+      written = plain-append text ((n, b) ∷ []) ∙ ap (λ (z : List ℕ). z ++ b ∷ []) e ∙ sym (quoted_byte content b quote);
+      whole = text_longer t front text k n b w;
+    })))
+    (λ room. breaks_off t n b _ (text_breaks t front text q k n b content waits c e w (inr (full content c room, quote))))))
 
 on_quote : (t front text : Data) (q : Parser) (k n b : ℕ) (content : List ℕ) → Waits front q → IsContent content → plain text ≡ quoted content ++ 39 ∷ []
     → t ≡ front ++ ((k, 39) ∷ text) → Outcome t n b (step_of (at_quote q content) n b)
 unfolding step_of
 on_quote t front text q k n b content waits c e w =
     cond_both (b == 39) _ _ (Outcome t n b)
-      (λ quote.
-        let is = eqb-true b 39 quote in
-        cond_both (nat_lt (length content) 80) _ _ (Outcome t n b)
-          (λ room. goes_on t n b (in_text q (content ++ b ∷ [])) (live_text (record {
-            state = q;
-            front = front;
-            line = k;
-            text = text ++ (n, b) ∷ [];
-            content = content ++ b ∷ [];
-            is = refl;
-            waits = waits;
-            content_is = content_more content b c room (ap (λ (z : ℕ). z == 10) is);
-            written = plain-append text ((n, b) ∷ []) ∙ ap (λ (z : List ℕ). z ++ b ∷ []) e
-              ∙ ap (λ (z : ℕ). (quoted content ++ 39 ∷ []) ++ z ∷ []) is ∙ sym (quoted_quote content)
-              ∙ ap (λ (z : ℕ). quoted (content ++ z ∷ [])) (sym is);
-            whole = text_longer t front text k n b w
-          })))
-          (λ room. breaks_off t n b _ (quote_breaks t front text q k n b content waits c e w (inl (is, full content c room)))))
-      (λ quote. cond_both (may_follow b) _ _ (Outcome t n b)
-        (λ f. subst (Outcome t n b) (sym (put_same q Quote content (Text content) n b))
-          (put_value t front ((k, 39) ∷ text) q (Text content) n b waits (record { content_is = c; whole = ap (λ (z : List ℕ). 39 ∷ z) e }) f w))
-        (λ f. breaks_off t n b _ (quote_breaks t front text q k n b content waits c e w (inr (quote, f)))))
+    (λ quote.
+    let is = eqb-true b 39 quote in
+    cond_both (nat_lt (length content) 80) _ _ (Outcome t n b)
+    (λ room. goes_on t n b (in_text q (content ++ b ∷ [])) (live_text (record {
+      state = q;
+      front = front;
+      line = k;
+      text = text ++ (n, b) ∷ [];
+      content = content ++ b ∷ [];
+      is = refl;
+      waits = waits;
+      content_is = content_more content b c room (ap (λ (z : ℕ). z == 10) is);
+      written = plain-append text ((n, b) ∷ []) ∙ ap (λ (z : List ℕ). z ++ b ∷ []) e
+          ∙ ap (λ (z : ℕ). (quoted content ++ 39 ∷ []) ++ z ∷ []) is ∙ sym (quoted_quote content)
+          ∙ ap (λ (z : ℕ). quoted (content ++ z ∷ [])) (sym is);
+      whole = text_longer t front text k n b w;
+    })))
+    (λ room. breaks_off t n b _ (quote_breaks t front text q k n b content waits c e w (inl (is, full content c room)))))
+    (λ quote. cond_both (may_follow b) _ _ (Outcome t n b)
+    (λ f. subst (Outcome t n b) (sym (put_same q Quote content (Text content) n b))
+    (put_value t front ((k, 39) ∷ text) q (Text content) n b waits (record { content_is = c; whole = ap (λ (z : List ℕ). 39 ∷ z) e }) f w))
+    (λ f. breaks_off t n b _ (quote_breaks t front text q k n b content waits c e w (inr (quote, f)))))
 
 -- one more byte in any state
 by_state : (t : Data) (p q : Parser) (n b : ℕ) → p ≡ q → Outcome t n b (step_of q n b) → Outcome t n b (step_of p n b)

@@ -22,23 +22,28 @@ strip_law zero n done s h = absurd (omega (arith, s, h))
 strip_law (suc f) n done s h =
     let P : ℕ × ℕ → Type 0 = Strips n done in
     elim (cases_Bool (n % 10 == 0)) [
-      inl y ↦
-        let tenth = eqb-true _ _ y in
-        let rest = strip_law f (n / 10) (done + 1) (omega (arith, s, tenth)) (omega (arith, h, tenth, pow-suc 10 f)) in
-        subst P (sym (cond-true _ _ _ y)) (record {
-          more = suc rest.more;
-          count = omega (arith, rest.count);
-          value = omega (arith, rest.value, tenth, ap (λ (x : ℕ). (strip_of f (n / 10) (done + 1)).0 * x) (pow-suc 10 rest.more),
-            mul_assoc (strip_of f (n / 10) (done + 1)).0 (10 ^ rest.more) 10);
-          last = rest.last
-        })
-    | inr n0 ↦
-        subst P (sym (cond-false _ _ _ n0)) (record {
-          more = 0;
-          count = omega arith;
-          value = omega arith;
-          last = eqb-false _ _ n0
-        })
+      | inl y ↦
+          let tenth = eqb-true _ _ y in
+          let rest = strip_law f (n / 10) (done + 1) (omega (arith, s, tenth)) (omega (arith, h, tenth, pow-suc 10 f)) in
+          subst P (sym (cond-true _ _ _ y)) (record {
+            more = suc rest.more;
+            count = omega (arith, rest.count);
+            value = omega (
+              arith,
+              rest.value,
+              tenth,
+              ap (λ (x : ℕ). (strip_of f (n / 10) (done + 1)).0 * x) (pow-suc 10 rest.more),
+              mul_assoc (strip_of f (n / 10) (done + 1)).0 (10 ^ rest.more) 10,
+            );
+            last = rest.last;
+          })
+      | inr n0 ↦
+          subst P (sym (cond-false _ _ _ n0)) (record {
+            more = 0;
+            count = omega arith;
+            value = omega arith;
+            last = eqb-false _ _ n0;
+          })
     ]
 
 in_range : (z : ℤ) → IsInRange z → unsigned_abs z < 10 ^ 30
@@ -60,8 +65,8 @@ unfolding seconds_of
 seconds_is z r =
     let P : Dec → Type 0 = IsSeconds z in
     elim (cases_Bool (unsigned_abs z == 0)) [
-      inl y ↦ subst P (sym (cond-true _ _ _ y)) (zero_scaled (is_negative z) (unsigned_abs z) (eqb-true _ _ y))
-    | inr n ↦
-        let some : 0 < unsigned_abs z = omega (arith, eqb-false _ _ n) in
-        subst P (sym (cond-false _ _ _ n)) (scaled (is_negative z) (unsigned_abs z) some (strip_law 30 (unsigned_abs z) 0 some (in_range z r)))
+      | inl y ↦ subst P (sym (cond-true _ _ _ y)) (zero_scaled (is_negative z) (unsigned_abs z) (eqb-true _ _ y))
+      | inr n ↦
+          let some : 0 < unsigned_abs z = omega (arith, eqb-false _ _ n) in
+          subst P (sym (cond-false _ _ _ n)) (scaled (is_negative z) (unsigned_abs z) some (strip_law 30 (unsigned_abs z) 0 some (in_range z r)))
     ]

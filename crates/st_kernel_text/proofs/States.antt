@@ -89,4 +89,3 @@ run_no_quote b h = grind (arith, nat_tests, common_steps)
 
 pub follow_no_quote : (b : ℕ) → may_follow b ≡ true → (b == 39) ≡ false
 follow_no_quote b h = grind (arith, nat_tests, common_steps)
-

@@ -124,7 +124,13 @@ mod tests {
         }
         let long = [b'x'; 1001];
         match read_kernel(rt.alloc(), &long) {
-            Err(fault) => assert_eq!(rt; fault, TextFault::At { line: 1, cause: TextCause::LineTooLong }),
+            Err(fault) => assert_eq!(rt;
+                fault,
+                TextFault::At {
+                    line: 1,
+                    cause: TextCause::LineTooLong
+                }
+            ),
             Ok(_) => assert!(rt; false),
         }
         Ok(())
