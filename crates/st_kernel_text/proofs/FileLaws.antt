@@ -1,11 +1,11 @@
 -- What the reader answers to a file is what the file reads to, or its fault, and nothing else is.
-use Rattle.std.proofs.Common.{inl, inr, ◌⊎◌, ◌≡◌, ℕ, ◌+◌, ◌<◌, ◌≤◌, suc, Bool, true, false, List, [], ◌∷◌, ◌++◌, length, Option, Some, None, Result, Ok, Err, refl, ap, sym, ◌∙◌, subst, arith, append_assoc}
+use Rattle.std.proofs.Common.{inl, inr, ◌⊎◌, ◌≡◌, ℕ, ◌+◌, false, List, [], ◌∷◌, ◌++◌, length, Some, None, Result, Ok, Err, refl, ap, sym, ◌∙◌, subst}
 use Rattle.std.proofs.lemmas.List.{append-nil}
 use Rattle.st_text.specs.Lines.{lines_of}
 use Rattle.st_kernel_text.specs.Fault.{Fault, fails}
 use Rattle.st_kernel_text.specs.Faults.{Row, between, behind_name, behind_sign, in_list, behind_values, Stands, HasFault, IsUnfinished}
 use Rattle.st_kernel_text.specs.File.{data_text, reads_behind, AreGood, IsTooLong, HasBadByte, ReadsTo, HasBadLine, HasBadToken, HasNoEnd, Reads, Agree}
-use Rattle.st_kernel_text.specs.Grammar.{Data, SpellsAll}
+use Rattle.st_kernel_text.specs.Grammar.{Data}
 use Rattle.st_kernel_text.specs.LinesMachine.{line_of, lines_from, read_of}
 use Rattle.st_kernel_text.specs.ParserMachine.{◌>>=◌, Answers, fresh, steps_of, finish_in, finish_of}
 use Rattle.st_kernel_text.specs.declared.assignment.Assignment.{Assignment}
@@ -21,8 +21,8 @@ use Rattle.st_kernel_text.proofs.LineLaws.{kernel, with, good_lines, long_line, 
 use Rattle.st_kernel_text.proofs.Live.{Live, live_between}
 use Rattle.st_kernel_text.proofs.LiveTokens.{Outcomes, went_all, broke_all, live_steps}
 use Rattle.st_kernel_text.proofs.ReadAll.{all_read}
-use Rattle.st_kernel_text.proofs.Rows.{row_read, signed_read, listed_read, ReadsOn}
-use Rattle.st_kernel_text.proofs.Settled.{Settles, settled, live_row, live_end, Ends, ends_well, ends_badly, EndsBadly}
+use Rattle.st_kernel_text.proofs.Rows.{row_read, signed_read, listed_read}
+use Rattle.st_kernel_text.proofs.Settled.{Settles, settled, live_row, live_end, Ends, ends_well, ends_badly}
 use Rattle.st_kernel_text.proofs.States.{signed}
 
 -- the data of lines from the beginning of a file

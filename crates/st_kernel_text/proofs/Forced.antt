@@ -1,8 +1,8 @@
 -- Where data have a fault the reader answers it.
-use Rattle.std.proofs.Common.{inl, inr, ◌⊎◌, ◌≡◌, ℕ, ◌+◌, ◌<◌, ◌≤◌, Bool, true, false, not, ◌&&◌, List, [], ◌∷◌, ◌++◌, length, Option, Some, None, Result, Ok, Err, refl, ap, sym, ◌∙◌, subst, arith, append_assoc}
-use Rattle.std.specs.Prelude.{◌==◌, ◌||◌, nat_lt, if◌then◌else◌, cond}
+use Rattle.std.proofs.Common.{inl, inr, ◌⊎◌, ◌≡◌, ℕ, true, false, ◌&&◌, List, [], ◌∷◌, ◌++◌, length, Option, Some, None, Result, Ok, refl, ap, sym, ◌∙◌, subst, arith}
+use Rattle.std.specs.Prelude.{◌==◌, ◌||◌, nat_lt}
 use Rattle.std.specs.List.{list_all}
-use Rattle.std.proofs.lemmas.Bool.{and_parts, and_from, and_left, and_right, cond-true, cond-false, cond_both, cases_Bool, false_from_ne_true, eqb-true, eq-eqb, or_parts, or_cases, or_from, le-ltb, both_ways}
+use Rattle.std.proofs.lemmas.Bool.{and_parts, cond-true, cond-false, cases_Bool, false_from_ne_true, eqb-true, eq-eqb, or_parts, le-ltb}
 use Rattle.std.proofs.lemmas.Bool.Decides.{nat_tests}
 use Rattle.std.proofs.lemmas.Grind.{common_steps}
 use Rattle.std.proofs.lemmas.List.Folds.{list_all-append}
@@ -10,24 +10,23 @@ use Rattle.st_text.specs.Bytes.{is_blank}
 use Rattle.st_decimal.specs.declared.number.Dec.{Dec}
 use Rattle.st_kernel_text.specs.Bytes.{is_space, is_separator, is_name_byte, is_run_byte}
 use Rattle.st_kernel_text.specs.Fault.{Fault, fails}
-use Rattle.st_kernel_text.specs.Faults.{Row, between, behind_name, behind_sign, in_list, behind_values, Stands, Breaks, HasFault, HasNoName, HasNoSign, HasPlusAlone, HasByte, HasBadRun, HasOpenText, HasBadEnd, HasBadValue, HasOtherKind, BeginsWithout, EndsName, StandsNamed, is_quote, is_before_value}
+use Rattle.st_kernel_text.specs.Faults.{Row, between, behind_name, behind_sign, in_list, behind_values, Stands, Breaks, HasFault, HasNoName, HasNoSign, HasPlusAlone, HasBadRun, HasOpenText, HasBadEnd, HasBadValue, HasOtherKind, BeginsWithout, EndsName, is_quote, is_before_value}
 use Rattle.st_kernel_text.specs.Grammar.{Data, plain, IsName, same_kind}
 use Rattle.st_kernel_text.specs.ParserMachine.{◌>>=◌, fresh, is_name, ends_in_plus, without_last, start_of, named_of, put_of, taken_of, step_of, steps_of}
-use Rattle.st_kernel_text.specs.ValueMachine.{number_of_run, fits}
 use Rattle.st_kernel_text.specs.Values.{ReadsRun, cause_of_run, may_follow}
 use Rattle.st_kernel_text.specs.declared.assignment.Assignment.{Assignment}
 use Rattle.st_kernel_text.specs.declared.assignment.Mode.{Mode}
 use Rattle.st_kernel_text.specs.declared.fault.TextCause.{TextCause}
 use Rattle.st_kernel_text.specs.declared.fault.TextCause.TheVariants.{NoName, NoSign, NoValue, BadNumber, BadString, MixedKinds, TrailingText}
 use Rattle.st_kernel_text.specs.declared.parser.Parser.{Parser}
-use Rattle.st_kernel_text.specs.declared.parser.Stage.TheVariants.{Name, Named, Plus, Signed, InList, Closed}
+use Rattle.st_kernel_text.specs.declared.parser.Stage.TheVariants.{Name, Named, Plus, Signed, InList}
 use Rattle.st_kernel_text.specs.declared.value.Value.{Value}
 use Rattle.st_kernel_text.proofs.Heads.{name_from, name_read, plus_parts, ended_step, blanks_read}
 use Rattle.st_kernel_text.proofs.ReadAll.{closed}
 use Rattle.st_kernel_text.proofs.ReadValues.{Starts, starts_signed, starts_list, in_run, in_text, at_quote, run_read, run_end, quoted_read, closed_read, value_read}
 use Rattle.st_kernel_text.proofs.Rows.{between_read, signed_read, named_read, listed_read, closed_row_read}
 use Rattle.st_kernel_text.proofs.Runs.{run_missing}
-use Rattle.st_kernel_text.proofs.States.{naming, signed, one_step, failed_step, steps-append}
+use Rattle.st_kernel_text.proofs.States.{naming, signed, one_step, failed_step}
 
 -- a run of bytes of a name that is none is none for the reader
 no_name : (w : List ℕ) → list_all is_name_byte w ≡ true → (IsName w → ⊥) → is_name w ≡ false

@@ -1,17 +1,17 @@
 -- Spellings that go on by one byte, one value or one assignment.
-use Rattle.std.proofs.Common.{inl, inr, ◌⊎◌, ◌≡◌, ℕ, ◌+◌, ◌<◌, ◌≤◌, Bool, true, false, ◌&&◌, List, [], ◌∷◌, ◌++◌, length, refl, ap, sym, ◌∙◌, subst, arith, append_assoc}
-use Rattle.std.specs.Prelude.{◌==◌, ◌||◌, if◌then◌else◌}
+use Rattle.std.proofs.Common.{◌≡◌, ℕ, Bool, true, false, List, [], ◌∷◌, ◌++◌, refl, ap, sym, ◌∙◌, append_assoc}
+use Rattle.std.specs.Prelude.{◌==◌, if◌then◌else◌}
 use Rattle.std.specs.List.{list_all}
-use Rattle.std.proofs.lemmas.Bool.{and_parts, and_from, cond-true, cond-false, cases_Bool}
+use Rattle.std.proofs.lemmas.Bool.{and_from, cond-false}
 use Rattle.std.proofs.lemmas.List.{append-nil}
 use Rattle.std.proofs.lemmas.List.Folds.{list_all-append}
 use Rattle.st_kernel_text.specs.Bytes.{is_space, is_separator}
-use Rattle.st_kernel_text.specs.Grammar.{Data, plain, AreAll, EndsValue, same_kind, AreOfOneKind, SpellsItem, SpellsItems, SpellsAssignment, SpellsNext, SpellsAll}
+use Rattle.st_kernel_text.specs.Grammar.{Data, plain, EndsValue, same_kind, AreOfOneKind, SpellsItems, SpellsAssignment, SpellsAll}
 use Rattle.st_kernel_text.specs.ValueMachine.{fits}
 use Rattle.st_kernel_text.specs.Values.{Spells, quoted, may_follow}
 use Rattle.st_kernel_text.specs.declared.assignment.Assignment.{Assignment}
 use Rattle.st_kernel_text.specs.declared.value.Value.{Value}
-use Rattle.st_kernel_text.proofs.States.{plain-append, all_both}
+use Rattle.st_kernel_text.proofs.States.{all_both}
 
 pub append3 : (a b c x : Data) → (a ++ (b ++ c)) ++ x ≡ a ++ (b ++ (c ++ x))
 append3 a b c x = append_assoc a (b ++ c) x ∙ ap (λ (z : Data). a ++ z) (append_assoc b c x)

@@ -1,24 +1,21 @@
 -- A name and its sign are read as they are spelled.
-use Rattle.std.proofs.Common.{inl, inr, ◌⊎◌, ◌≡◌, ℕ, ◌+◌, ◌-◌, ◌<◌, ◌≤◌, zero, suc, Bool, true, false, not, ◌&&◌, List, [], ◌∷◌, ◌++◌, length, take, get_or, Option, Some, None, Result, Ok, Err, refl, ap, sym, ◌∙◌, subst, arith, append_assoc}
-use Rattle.std.specs.Prelude.{◌==◌, ◌||◌, nat_le, nat_lt, if◌then◌else◌}
+use Rattle.std.proofs.Common.{inl, inr, ◌≡◌, ℕ, ◌-◌, ◌<◌, Bool, true, false, ◌&&◌, List, [], ◌∷◌, ◌++◌, length, take, get_or, None, Ok, refl, ap, sym, ◌∙◌, subst, arith, append_assoc}
+use Rattle.std.specs.Prelude.{◌==◌}
 use Rattle.std.specs.List.{list_all}
-use Rattle.std.proofs.lemmas.Bool.{and_parts, and_from, cond-true, cond-false, leb-true, ltb-true, lt-ltb, le-leb, eqb-true, eq-eqb, ne_eqb, both_ways, not-true, cases_Bool, not_from_false}
-use Rattle.std.proofs.lemmas.Bool.Decides.{nat_tests}
+use Rattle.std.proofs.lemmas.Bool.{and_parts, and_from, cond-true, cond-false, leb-true, ltb-true, lt-ltb, le-leb, eqb-true, both_ways, not-true, cases_Bool, not_from_false}
 use Rattle.std.proofs.lemmas.Grind.{common_steps}
-use Rattle.std.proofs.lemmas.List.{append-nil, length_push, get_or_push, take_all}
+use Rattle.std.proofs.lemmas.List.{append-nil, length_push, get_or_push}
 use Rattle.std.proofs.Math.Seq.{take-append_seam}
 use Rattle.st_text.specs.Bytes.{is_blank}
 use Rattle.st_text.proofs.Trimmed.{front_and_last}
 use Rattle.st_kernel_text.specs.Bytes.{is_space, is_name_byte}
-use Rattle.st_kernel_text.specs.Fault.{Fault, fails}
 use Rattle.st_kernel_text.specs.Grammar.{Data, plain, IsName, SpellsSign, SpellsHead}
-use Rattle.st_kernel_text.specs.ParserMachine.{◌>>=◌, fresh, is_name, ends_in_plus, without_last, step_of, steps_of, named_of}
+use Rattle.st_kernel_text.specs.ParserMachine.{fresh, is_name, ends_in_plus, without_last, step_of, steps_of, named_of}
 use Rattle.st_kernel_text.specs.declared.assignment.Assignment.{Assignment}
 use Rattle.st_kernel_text.specs.declared.assignment.Mode.{Mode}
 use Rattle.st_kernel_text.specs.declared.assignment.Mode.TheVariants.{Set, Add}
-use Rattle.st_kernel_text.specs.declared.parser.Parser.{Parser}
-use Rattle.st_kernel_text.specs.declared.parser.Stage.TheVariants.{Fresh, Name, Named, Plus, Signed}
-use Rattle.st_kernel_text.proofs.States.{naming, signed, one_step, skip, name_byte_no_space, blank_no_name_byte, blank_no_equals}
+use Rattle.st_kernel_text.specs.declared.parser.Stage.TheVariants.{Name, Named, Plus, Signed}
+use Rattle.st_kernel_text.proofs.States.{naming, signed, one_step, skip, name_byte_no_space, blank_no_name_byte}
 
 pub plus_snoc : (front : List ℕ) (x : ℕ) → ends_in_plus (front ++ x ∷ []) ≡ (x == 43)
 unfolding ends_in_plus

@@ -1,9 +1,8 @@
 -- Lines that are good are read as their data are; the first that is not is a fault.
-use Rattle.std.proofs.Common.{inl, inr, ◌⊎◌, ◌≡◌, ℕ, ◌+◌, ◌<◌, ◌≤◌, suc, Bool, true, false, List, [], ◌∷◌, ◌++◌, length, Result, Ok, Err, refl, ap, sym, ◌∙◌, subst, arith, append_assoc}
-use Rattle.std.specs.Prelude.{nat_lt, if◌then◌else◌, cond}
+use Rattle.std.proofs.Common.{inl, inr, ◌⊎◌, ◌≡◌, ℕ, ◌+◌, suc, Bool, true, false, List, [], ◌∷◌, ◌++◌, length, Result, Ok, Err, refl, ap, sym, ◌∙◌, subst, arith}
+use Rattle.std.specs.Prelude.{nat_lt, if◌then◌else◌}
 use Rattle.std.specs.List.{list_all}
-use Rattle.std.proofs.lemmas.Bool.{cond-true, cond-false, cond_both, cases_Bool, le-ltb, lt-ltb, ltb-true, ltb-false, both_ways}
-use Rattle.std.proofs.lemmas.List.{append-nil}
+use Rattle.std.proofs.lemmas.Bool.{cond-true, cond-false, cases_Bool, le-ltb, lt-ltb, ltb-true, ltb-false, both_ways}
 use Rattle.st_kernel_text.specs.Bytes.{is_allowed}
 use Rattle.st_kernel_text.specs.Fault.{Fault, fails}
 use Rattle.st_kernel_text.specs.File.{begins_data, begins_text, is_data, reads_after, reads_behind, numbered, line_data, data_text, IsGood, AreGood, IsTooLong, HasBadByte}

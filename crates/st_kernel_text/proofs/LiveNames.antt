@@ -1,26 +1,23 @@
 -- One more byte between assignments, in a name, behind it and in its sign.
-use Rattle.std.proofs.Common.{inl, inr, ◌⊎◌, ◌≡◌, ℕ, ◌+◌, ◌<◌, ◌≤◌, Bool, true, false, not, ◌&&◌, List, [], ◌∷◌, ◌++◌, length, Option, Some, None, Result, Ok, Err, refl, ap, sym, ◌∙◌, subst, arith, append_assoc}
-use Rattle.std.specs.Prelude.{◌==◌, ◌||◌, if◌then◌else◌}
+use Rattle.std.proofs.Common.{inl, inr, ◌≡◌, ℕ, ◌<◌, true, false, ◌&&◌, List, [], ◌∷◌, ◌++◌, length, None, refl, ap, sym, ◌∙◌, subst, arith, append_assoc}
+use Rattle.std.specs.Prelude.{◌==◌}
 use Rattle.std.specs.List.{list_all}
-use Rattle.std.proofs.lemmas.Bool.{and_parts, and_from, cond-true, cond-false, cond_both, eqb-true, eqb-false, eq-eqb, or_from, both_ways}
+use Rattle.std.proofs.lemmas.Bool.{and_parts, and_from, cond_both, eqb-true, eq-eqb, or_from, both_ways}
 use Rattle.std.proofs.lemmas.List.{append-nil}
 use Rattle.st_text.specs.Bytes.{is_blank}
 use Rattle.st_kernel_text.specs.Bytes.{is_space, is_name_byte}
-use Rattle.st_kernel_text.specs.Fault.{Fault, fails}
-use Rattle.st_kernel_text.specs.Faults.{Row, between, behind_name, Stands, HasFault, HasNoName, HasNoSign, HasPlusAlone, BeginsWithout, EndsName, StandsNamed}
-use Rattle.st_kernel_text.specs.Grammar.{Data, plain, IsName, SpellsSign, SpellsHead, SpellsAll}
-use Rattle.st_kernel_text.specs.ParserMachine.{fresh, is_name, ends_in_plus, without_last, named_of, added_of, ended_of, step_of}
+use Rattle.st_kernel_text.specs.Faults.{between, behind_name, HasFault, BeginsWithout, EndsName}
+use Rattle.st_kernel_text.specs.Grammar.{Data, plain, IsName, SpellsHead, SpellsAll}
+use Rattle.st_kernel_text.specs.ParserMachine.{fresh, is_name, ends_in_plus, without_last, named_of, added_of, step_of}
 use Rattle.st_kernel_text.specs.declared.assignment.Assignment.{Assignment}
-use Rattle.st_kernel_text.specs.declared.assignment.Mode.{Mode}
 use Rattle.st_kernel_text.specs.declared.assignment.Mode.TheVariants.{Set, Add}
 use Rattle.st_kernel_text.specs.declared.fault.TextCause.TheVariants.{NoName, NoSign}
-use Rattle.st_kernel_text.specs.declared.parser.Parser.{Parser}
 use Rattle.st_kernel_text.specs.declared.parser.Stage.{Stage}
 use Rattle.st_kernel_text.specs.declared.parser.Stage.TheVariants.{Name, Named, Plus, Signed}
 use Rattle.st_kernel_text.proofs.Forced.{front_bytes}
 use Rattle.st_kernel_text.proofs.Grows.{all_more, all_space, append3, snoc_some}
 use Rattle.st_kernel_text.proofs.Heads.{name_from, name_test, plus_parts, plus_snoc, without_last_snoc}
-use Rattle.st_kernel_text.proofs.Live.{IsBetween, IsNaming, IsNamed, IsPlus, IsHead, IsSigned, waits_signed, live_between, live_naming, live_named, live_plus, live_waits, Outcome, goes_on, breaks_off}
+use Rattle.st_kernel_text.proofs.Live.{waits_signed, live_between, live_naming, live_named, live_plus, live_waits, Outcome, goes_on, breaks_off}
 use Rattle.st_kernel_text.proofs.ReadValues.{split, cut, no_bytes}
 use Rattle.st_kernel_text.proofs.States.{naming, signed, plain-append, name_byte_no_space, blank_no_name_byte}
 

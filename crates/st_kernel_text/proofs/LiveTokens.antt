@@ -1,31 +1,29 @@
 -- One more byte in a value, and all bytes one by one.
-use Rattle.std.proofs.Common.{inl, inr, ◌⊎◌, ◌≡◌, ℕ, ◌+◌, ◌<◌, ◌≤◌, Bool, true, false, not, ◌&&◌, List, [], ◌∷◌, ◌++◌, length, Option, Some, None, Result, Ok, Err, refl, ap, sym, ◌∙◌, subst, arith, append_assoc}
-use Rattle.std.specs.Prelude.{◌==◌, ◌||◌, nat_lt, if◌then◌else◌}
+use Rattle.std.proofs.Common.{inl, inr, ◌⊎◌, ◌≡◌, ℕ, ◌<◌, true, false, List, [], ◌∷◌, ◌++◌, length, Option, Some, None, Result, Ok, Err, refl, ap, sym, ◌∙◌, subst, arith, append_assoc}
+use Rattle.std.specs.Prelude.{◌==◌, ◌||◌, nat_lt}
 use Rattle.std.specs.List.{list_all}
-use Rattle.std.proofs.lemmas.Bool.{and_parts, and_from, cond-true, cond-false, cond_both, cases_Bool, eqb-true, eqb-false, eq-eqb, or_left, or_right, both_ways, ltb-true, ltb-false, not_from_false}
+use Rattle.std.proofs.lemmas.Bool.{and_parts, and_from, cond_both, eqb-true, or_left, or_right, both_ways, ltb-true, ltb-false, not_from_false}
 use Rattle.std.proofs.lemmas.Bool.Decides.{nat_tests}
 use Rattle.std.proofs.lemmas.Grind.{common_steps}
 use Rattle.std.proofs.lemmas.List.{append-nil, length_push}
 use Rattle.std.proofs.lemmas.List.Folds.{list_all-append}
 use Rattle.st_decimal.specs.declared.number.Dec.{Dec}
 use Rattle.st_kernel_text.specs.Bytes.{is_run_byte}
-use Rattle.st_kernel_text.specs.Fault.{Fault, fails}
-use Rattle.st_kernel_text.specs.Faults.{HasFault, HasBadValue, BeginsWithout, is_quote}
+use Rattle.st_kernel_text.specs.Fault.{Fault}
+use Rattle.st_kernel_text.specs.Faults.{HasFault, BeginsWithout, is_quote}
 use Rattle.st_kernel_text.specs.Grammar.{Data, plain}
-use Rattle.st_kernel_text.specs.ParserMachine.{◌>>=◌, fresh, put_of, taken_of, push_quoted, step_of, steps_of}
+use Rattle.st_kernel_text.specs.ParserMachine.{◌>>=◌, taken_of, step_of, steps_of}
 use Rattle.st_kernel_text.specs.ValueMachine.{number_of_run}
 use Rattle.st_kernel_text.specs.Values.{ReadsRun, IsContent, quoted, cause_of_run, is_no_line_end, may_follow}
-use Rattle.st_kernel_text.specs.declared.fault.TextCause.{TextCause}
 use Rattle.st_kernel_text.specs.declared.fault.TextCause.TheVariants.{BadString}
 use Rattle.st_kernel_text.specs.declared.parser.Parser.{Parser}
 use Rattle.st_kernel_text.specs.declared.parser.Stage.TheVariants.{Run, Quote}
-use Rattle.st_kernel_text.specs.declared.value.Value.{Value}
 use Rattle.st_kernel_text.specs.declared.value.Value.TheVariants.{Number, Text}
 use Rattle.st_kernel_text.proofs.Grows.{all_more, quoted_byte, quoted_quote}
-use Rattle.st_kernel_text.proofs.Live.{IsBetween, IsNaming, IsNamed, IsPlus, IsSigned, IsListed, Waits, waits_signed, waits_listed, IsInRun, IsInText, IsAtQuote, IsClosed, Live, live_between, live_naming, live_named, live_plus, live_waits, live_run, live_text, live_quote, live_closed, Outcome, goes_on, breaks_off, went_on, broke_off}
+use Rattle.st_kernel_text.proofs.Live.{Waits, waits_signed, waits_listed, Live, live_between, live_naming, live_named, live_plus, live_waits, live_run, live_text, live_quote, live_closed, Outcome, goes_on, breaks_off, went_on, broke_off}
 use Rattle.st_kernel_text.proofs.LiveNames.{on_between, on_naming, on_named, on_plus}
 use Rattle.st_kernel_text.proofs.LiveValues.{OpensValue, value_breaks, on_signed, on_list, on_behind, put_value}
-use Rattle.st_kernel_text.proofs.ReadValues.{opens_value, in_run, in_text, at_quote, put_same}
+use Rattle.st_kernel_text.proofs.ReadValues.{in_run, in_text, at_quote, put_same}
 use Rattle.st_kernel_text.proofs.Runs.{run_reads, run_none}
 use Rattle.st_kernel_text.proofs.States.{plain-append, follow_no_stop, run_no_quote}
 

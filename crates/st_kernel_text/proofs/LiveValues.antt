@@ -1,35 +1,30 @@
 -- One more byte before a value, in it and behind it.
-use Rattle.std.proofs.Common.{inl, inr, ◌⊎◌, ◌≡◌, ℕ, ◌+◌, ◌<◌, ◌≤◌, Bool, true, false, not, ◌&&◌, List, [], ◌∷◌, ◌++◌, length, Option, Some, None, Result, Ok, Err, refl, ap, sym, ◌∙◌, subst, arith, append_assoc}
-use Rattle.std.specs.Prelude.{◌==◌, ◌||◌, nat_lt, if◌then◌else◌}
+use Rattle.std.proofs.Common.{inl, inr, ◌≡◌, ℕ, ◌<◌, true, false, List, [], ◌∷◌, ◌++◌, length, Option, Some, None, Ok, refl, ap, sym, ◌∙◌, subst, arith, append_assoc}
+use Rattle.std.specs.Prelude.{◌==◌}
 use Rattle.std.specs.List.{list_all}
-use Rattle.std.proofs.lemmas.Bool.{and_parts, and_from, cond-true, cond-false, cond_both, cases_Bool, eqb-true, eqb-false, eq-eqb, or_from, or_parts, or_left, or_right, both_ways, ltb-true, ltb-false, not_from_false}
+use Rattle.std.proofs.lemmas.Bool.{and_from, cond_both, eqb-true, eqb-false, or_from, both_ways}
 use Rattle.std.proofs.lemmas.Bool.Decides.{nat_tests}
 use Rattle.std.proofs.lemmas.Grind.{common_steps}
 use Rattle.std.proofs.lemmas.List.{append-nil, length_push}
-use Rattle.std.proofs.lemmas.List.Folds.{list_all-append}
 use Rattle.st_text.specs.Bytes.{is_blank}
-use Rattle.st_decimal.specs.declared.number.Dec.{Dec}
 use Rattle.st_kernel_text.specs.Bytes.{is_space, is_separator, is_run_byte}
-use Rattle.st_kernel_text.specs.Fault.{Fault, fails}
-use Rattle.st_kernel_text.specs.Faults.{Row, behind_sign, in_list, behind_values, Stands, HasFault, HasBadValue, HasBadRun, HasOpenText, HasBadEnd, HasOtherKind, BeginsWithout, is_quote, is_before_value, StandsListed, StandsClosed}
-use Rattle.st_kernel_text.specs.Grammar.{Data, plain, same_kind, AreOfOneKind, SpellsHead, SpellsItems, SpellsAlone, SpellsList, SpellsValues, SpellsAssignment, SpellsAll}
-use Rattle.st_kernel_text.specs.ParserMachine.{fresh, start_of, close_of, put_of, taken_of, closed_of, list_of, push_quoted, step_of}
-use Rattle.st_kernel_text.specs.ValueMachine.{number_of_run, fits}
-use Rattle.st_kernel_text.specs.Values.{Spells, SpellsRun, SpellsText, IsContent, ReadsRun, quoted, cause_of_run, is_no_line_end, may_follow}
+use Rattle.st_kernel_text.specs.Faults.{behind_sign, in_list, behind_values, HasFault, HasBadValue, HasOtherKind, BeginsWithout, is_before_value, StandsListed}
+use Rattle.st_kernel_text.specs.Grammar.{Data, plain, AreOfOneKind, SpellsItems, SpellsValues, SpellsAll}
+use Rattle.st_kernel_text.specs.ParserMachine.{fresh, put_of, closed_of, list_of, step_of}
+use Rattle.st_kernel_text.specs.ValueMachine.{fits}
+use Rattle.st_kernel_text.specs.Values.{Spells, may_follow}
 use Rattle.st_kernel_text.specs.declared.assignment.Assignment.{Assignment}
 use Rattle.st_kernel_text.specs.declared.assignment.Mode.{Mode}
 use Rattle.st_kernel_text.specs.declared.fault.TextCause.{TextCause}
-use Rattle.st_kernel_text.specs.declared.fault.TextCause.TheVariants.{NoValue, BadNumber, BadString, MixedKinds, TrailingText}
+use Rattle.st_kernel_text.specs.declared.fault.TextCause.TheVariants.{BadNumber}
 use Rattle.st_kernel_text.specs.declared.parser.Parser.{Parser}
-use Rattle.st_kernel_text.specs.declared.parser.Stage.TheVariants.{Signed, InList, Run, Quoted, Quote, Closed}
+use Rattle.st_kernel_text.specs.declared.parser.Stage.TheVariants.{Signed, InList}
 use Rattle.st_kernel_text.specs.declared.value.Value.{Value}
-use Rattle.st_kernel_text.specs.declared.value.Value.TheVariants.{Number, Text}
-use Rattle.st_kernel_text.proofs.Grows.{all_more, all_push, append3, items_gap, items_push, kinds_push, quoted_byte, quoted_quote}
-use Rattle.st_kernel_text.proofs.Live.{IsHead, head_stands, IsSigned, IsListed, Waits, waits_signed, waits_listed, IsInRun, IsInText, IsAtQuote, IsClosed, live_between, live_waits, live_run, live_text, live_quote, live_closed, Outcome, goes_on, breaks_off}
-use Rattle.st_kernel_text.proofs.ReadAll.{closed, assigned, ends_more, items_more}
-use Rattle.st_kernel_text.proofs.ReadValues.{opens_value, in_run, in_text, at_quote, put_same}
-use Rattle.st_kernel_text.proofs.Runs.{run_reads, run_none}
-use Rattle.st_kernel_text.proofs.States.{signed, plain-append, run_no_follow, follow_no_stop, run_no_quote, follow_no_quote}
+use Rattle.st_kernel_text.proofs.Grows.{all_more, all_push, append3, items_gap, items_push, kinds_push}
+use Rattle.st_kernel_text.proofs.Live.{IsHead, head_stands, IsSigned, IsListed, Waits, waits_signed, waits_listed, live_between, live_waits, live_run, live_text, live_closed, Outcome, goes_on, breaks_off}
+use Rattle.st_kernel_text.proofs.ReadAll.{closed, assigned, items_more}
+use Rattle.st_kernel_text.proofs.ReadValues.{opens_value, in_run, in_text}
+use Rattle.st_kernel_text.proofs.States.{signed}
 
 -- the first byte of a value is nothing that may stand before it
 opens_before : (b : ℕ) → opens_value b ≡ true → is_before_value b ≡ false

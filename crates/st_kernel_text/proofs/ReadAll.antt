@@ -1,26 +1,25 @@
 -- Lists and whole assignments are read as they are spelled.
-use Rattle.std.proofs.Common.{inl, inr, ◌⊎◌, ◌≡◌, ℕ, ◌+◌, ◌<◌, ◌≤◌, suc, Bool, true, false, not, ◌&&◌, List, [], ◌∷◌, ◌++◌, length, Option, Some, None, Result, Ok, Err, refl, ap, sym, ◌∙◌, subst, arith, append_assoc}
-use Rattle.std.specs.Prelude.{◌==◌, ◌||◌, if◌then◌else◌, cond}
-use Rattle.std.specs.List.{list_all}
-use Rattle.std.proofs.lemmas.Bool.{and_parts, and_from, cond-true, cond-false, ne_eqb, cases_Bool}
+use Rattle.std.proofs.Common.{inl, inr, ◌≡◌, ℕ, ◌<◌, true, false, List, [], ◌∷◌, ◌++◌, length, Option, Some, None, Result, Ok, refl, ap, sym, ◌∙◌, subst, arith, append_assoc}
+use Rattle.std.specs.Prelude.{◌==◌}
+use Rattle.std.proofs.lemmas.Bool.{and_parts, cond-true, cond-false, ne_eqb}
 use Rattle.std.proofs.lemmas.Bool.Decides.{nat_tests}
 use Rattle.std.proofs.lemmas.Grind.{common_steps}
 use Rattle.std.proofs.lemmas.List.{append-nil}
 use Rattle.std.proofs.lemmas.List.Folds.{list_all-append}
 use Rattle.st_text.specs.Bytes.{is_blank}
 use Rattle.st_kernel_text.specs.Bytes.{is_space, is_separator}
-use Rattle.st_kernel_text.specs.Fault.{Fault, fails}
-use Rattle.st_kernel_text.specs.Grammar.{Data, plain, AreAll, EndsValue, same_kind, AreOfOneKind, SpellsItem, SpellsItems, SpellsAlone, SpellsList, SpellsValues, SpellsAssignment, SpellsNext, SpellsAll}
-use Rattle.st_kernel_text.specs.ParserMachine.{◌>>=◌, fresh, put_of, closed_of, step_of, steps_of}
+use Rattle.st_kernel_text.specs.Fault.{Fault}
+use Rattle.st_kernel_text.specs.Grammar.{Data, plain, EndsValue, same_kind, AreOfOneKind, SpellsItems, SpellsList, SpellsValues, SpellsAssignment, SpellsAll}
+use Rattle.st_kernel_text.specs.ParserMachine.{◌>>=◌, fresh, put_of, step_of, steps_of}
 use Rattle.st_kernel_text.specs.ValueMachine.{fits}
-use Rattle.st_kernel_text.specs.Values.{Spells, may_follow}
+use Rattle.st_kernel_text.specs.Values.{Spells}
 use Rattle.st_kernel_text.specs.declared.assignment.Assignment.{Assignment}
 use Rattle.st_kernel_text.specs.declared.assignment.Mode.{Mode}
 use Rattle.st_kernel_text.specs.declared.parser.Parser.{Parser}
 use Rattle.st_kernel_text.specs.declared.parser.Stage.TheVariants.{Signed, InList, Closed}
 use Rattle.st_kernel_text.specs.declared.value.Value.{Value}
 use Rattle.st_kernel_text.proofs.Heads.{head_read}
-use Rattle.st_kernel_text.proofs.ReadValues.{Starts, starts_signed, starts_list, value_read}
+use Rattle.st_kernel_text.proofs.ReadValues.{starts_signed, starts_list, value_read}
 use Rattle.st_kernel_text.proofs.States.{signed, one_step, skip}
 
 -- what follows may be more

@@ -1,8 +1,8 @@
 -- A value is read as it is spelled, up to the byte behind it.
-use Rattle.std.proofs.Common.{inl, inr, ◌⊎◌, ◌≡◌, ℕ, ◌+◌, ◌<◌, ◌≤◌, suc, Bool, true, false, not, ◌&&◌, List, [], ◌∷◌, ◌++◌, length, Option, Some, None, Result, Ok, Err, refl, ap, sym, ◌∙◌, subst, arith, append_assoc}
-use Rattle.std.specs.Prelude.{◌==◌, ◌||◌, nat_lt, if◌then◌else◌, cond}
+use Rattle.std.proofs.Common.{inl, inr, ◌≡◌, ℕ, ◌+◌, ◌<◌, ◌≤◌, Bool, true, false, List, [], ◌∷◌, ◌++◌, length, Option, Some, None, Result, Ok, refl, ap, sym, ◌∙◌, arith, append_assoc}
+use Rattle.std.specs.Prelude.{◌==◌, ◌||◌, cond}
 use Rattle.std.specs.List.{list_all}
-use Rattle.std.proofs.lemmas.Bool.{and_parts, and_from, cond-true, cond-false, lt-ltb, eqb-true, eqb-false, ne_eqb, cases_Bool, not-true, or_left, or_right, or_cases}
+use Rattle.std.proofs.lemmas.Bool.{and_parts, cond-true, cond-false, lt-ltb, eqb-true, cases_Bool, not-true, or_left, or_right}
 use Rattle.std.proofs.lemmas.Bool.Decides.{nat_tests}
 use Rattle.std.proofs.lemmas.Grind.{common_steps}
 use Rattle.std.proofs.lemmas.List.{append-nil, length_push}
@@ -10,7 +10,7 @@ use Rattle.st_decimal.specs.declared.number.Dec.{Dec}
 use Rattle.st_kernel_text.specs.Bytes.{is_space, is_separator, is_run_byte}
 use Rattle.st_kernel_text.specs.Fault.{Fault, fails}
 use Rattle.st_kernel_text.specs.Grammar.{Data, plain}
-use Rattle.st_kernel_text.specs.ParserMachine.{◌>>=◌, start_of, push_run, taken_of, put_of, after_in, after_of, step_of, steps_of}
+use Rattle.st_kernel_text.specs.ParserMachine.{◌>>=◌, start_of, taken_of, put_of, after_in, step_of, steps_of}
 use Rattle.st_kernel_text.specs.ValueMachine.{number_of_run, fits}
 use Rattle.st_kernel_text.specs.Values.{Spells, SpellsRun, SpellsText, IsContent, ReadsRun, quoted, is_no_line_end, may_follow}
 use Rattle.st_kernel_text.specs.declared.fault.TextCause.TheVariants.{MixedKinds}
@@ -18,11 +18,11 @@ use Rattle.st_kernel_text.specs.declared.assignment.Assignment.{Assignment}
 use Rattle.st_kernel_text.specs.declared.assignment.Mode.{Mode}
 use Rattle.st_kernel_text.specs.declared.parser.Parser.{Parser}
 use Rattle.st_kernel_text.specs.declared.parser.Stage.{Stage}
-use Rattle.st_kernel_text.specs.declared.parser.Stage.TheVariants.{Signed, InList, Run, Quoted, Quote, Closed}
+use Rattle.st_kernel_text.specs.declared.parser.Stage.TheVariants.{Signed, InList, Run, Quoted, Quote}
 use Rattle.st_kernel_text.specs.declared.value.Value.{Value}
 use Rattle.st_kernel_text.specs.declared.value.Value.TheVariants.{Number, Text}
 use Rattle.st_kernel_text.proofs.Runs.{run_only}
-use Rattle.st_kernel_text.proofs.States.{signed, one_step, steps-append, run_no_follow, follow_no_stop, run_no_quote, follow_no_quote}
+use Rattle.st_kernel_text.proofs.States.{signed, one_step, run_no_follow, follow_no_stop, run_no_quote, follow_no_quote}
 
 -- a first byte and what is behind it
 pub record Cut (t : Data) (b : ℕ) (u : List ℕ) : Type 0 where

@@ -1,16 +1,15 @@
 -- Where a token stands the reader is in the state of that row.
-use Rattle.std.proofs.Common.{inl, inr, ◌⊎◌, ◌≡◌, ℕ, ◌+◌, ◌<◌, ◌≤◌, Bool, true, false, List, [], ◌∷◌, ◌++◌, length, Option, Some, None, Result, Ok, Err, refl, ap, sym, ◌∙◌, subst, arith, append_assoc}
+use Rattle.std.proofs.Common.{◌≡◌, ℕ, true, List, [], ◌∷◌, ◌++◌, Option, Some, None, Ok, refl, ap, sym, ◌∙◌, subst, append_assoc}
 use Rattle.std.specs.List.{list_all}
 use Rattle.std.proofs.lemmas.List.{append-nil}
 use Rattle.st_text.specs.Bytes.{is_blank}
 use Rattle.st_kernel_text.specs.Faults.{Row, between, behind_name, behind_sign, in_list, behind_values, Stands, StandsBetween, StandsNamed, StandsSigned, StandsListed, StandsClosed}
-use Rattle.st_kernel_text.specs.Grammar.{Data, plain, SpellsItems, SpellsValues}
+use Rattle.st_kernel_text.specs.Grammar.{Data, plain}
 use Rattle.st_kernel_text.specs.ParserMachine.{fresh, steps_of}
 use Rattle.st_kernel_text.specs.declared.assignment.Assignment.{Assignment}
 use Rattle.st_kernel_text.specs.declared.assignment.Mode.{Mode}
 use Rattle.st_kernel_text.specs.declared.parser.Parser.{Parser}
-use Rattle.st_kernel_text.specs.declared.parser.Stage.{Stage}
-use Rattle.st_kernel_text.specs.declared.parser.Stage.TheVariants.{Name, Named, Signed, InList, Closed}
+use Rattle.st_kernel_text.specs.declared.parser.Stage.TheVariants.{Name, Named, Signed, InList}
 use Rattle.st_kernel_text.specs.declared.value.Value.{Value}
 use Rattle.st_kernel_text.proofs.Heads.{head_read, name_read, blanks_read}
 use Rattle.st_kernel_text.proofs.ReadAll.{all_read, items_read, items_more, list_opens, values_read, closed, blank_closed}

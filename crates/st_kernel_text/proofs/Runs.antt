@@ -1,18 +1,18 @@
 -- The number that a run spells is the one that the reader answers.
-use Rattle.std.proofs.Common.{inl, inr, ◌⊎◌, ◌≡◌, ℕ, ◌<◌, ◌≤◌, Bool, true, false, List, [], ◌∷◌, length, Option, Some, None, Result, Ok, Err, refl, ap, sym, ◌∙◌, subst, arith}
-use Rattle.std.specs.Prelude.{◌==◌, ℤ, nat_lt, if◌then◌else◌, MatchBool}
+use Rattle.std.proofs.Common.{inl, inr, ◌≡◌, ℕ, ◌≤◌, Bool, List, [], ◌∷◌, length, Option, Some, None, Result, Ok, Err, refl, ap, sym, ◌∙◌, subst}
+use Rattle.std.specs.Prelude.{◌==◌, ℤ, nat_lt, MatchBool}
 use Rattle.std.proofs.lemmas.Bool.{cases_Bool, cond-true, cond-false, MatchBool-at_true, MatchBool-at_false, le-ltb, ltb-false}
 use Rattle.st_decimal.specs.declared.number.Dec.{Dec}
 use Rattle.st_decimal.specs.declared.number.DecFault.{DecFault}
 use Rattle.st_decimal.specs.NumberMachine.{dec_of}
-use Rattle.st_decimal.specs.Value.{ReadsDec, IsScaled}
+use Rattle.st_decimal.specs.Value.{ReadsDec}
 use Rattle.st_decimal.proofs.Answered.{meets, one_answer}
 use Rattle.st_decimal.proofs.Scaled.{one_scaled}
 use Rattle.st_dates.specs.declared.fault.DateFault.{DateFault}
 use Rattle.st_dates.specs.AtDate.{ReadsAtDate, IsInRange}
 use Rattle.st_dates.specs.AtDateMachine.{at_date_of}
 use Rattle.st_dates.proofs.DateLaws.{reads, only}
-use Rattle.st_kernel_text.specs.DateValue.{IsSeconds, is_negative}
+use Rattle.st_kernel_text.specs.DateValue.{IsSeconds}
 use Rattle.st_kernel_text.specs.ValueMachine.{seconds_of, dated, numbered_value, date_number, short_number, number_of_run}
 use Rattle.st_kernel_text.specs.Values.{ReadsRun, ReadsDate, ReadsNumber}
 use Rattle.st_kernel_text.proofs.Seconds.{seconds_is}

@@ -1,6 +1,6 @@
 -- The seconds of a date are what is left of its units without the zeros at their end.
-use Rattle.std.proofs.Common.{inl, inr, ◌⊎◌, ◌≡◌, ◌≢◌, ℕ, ◌+◌, ◌-◌, ◌*◌, ◌/◌, ◌%◌, ◌^◌, ◌<◌, ◌≤◌, zero, suc, Bool, true, false, List, Option, Some, None, Result, Ok, Err, refl, ap, sym, ◌∙◌, subst, arith}
-use Rattle.std.specs.Prelude.{◌==◌, ℤ, pos, negsuc, ◌+ℤ◌, ◌≤ℤ◌, unsigned_abs, if◌then◌else◌}
+use Rattle.std.proofs.Common.{inl, inr, ◌≡◌, ◌≢◌, ℕ, ◌+◌, ◌*◌, ◌/◌, ◌%◌, ◌^◌, ◌<◌, zero, suc, Bool, refl, ap, sym, subst, arith}
+use Rattle.std.specs.Prelude.{◌==◌, ℤ, pos, negsuc, ◌+ℤ◌, unsigned_abs}
 use Rattle.std.proofs.Math.Nat.{pow-suc, mul_assoc}
 use Rattle.std.proofs.lemmas.Bool.{cases_Bool, cond-true, cond-false, eqb-true, eqb-false}
 use Rattle.std.proofs.lemmas.Int.{ints}
@@ -8,7 +8,7 @@ use Rattle.st_decimal.specs.declared.number.Dec.{Dec}
 use Rattle.st_decimal.specs.Value.{IsScaled, signed}
 use Rattle.st_dates.specs.AtDate.{IsInRange}
 use Rattle.st_kernel_text.specs.DateValue.{IsSeconds, is_negative}
-use Rattle.st_kernel_text.specs.ValueMachine.{strip_of, stripped, seconds_of}
+use Rattle.st_kernel_text.specs.ValueMachine.{strip_of, seconds_of}
 
 record Strips (n done : ℕ) (r : ℕ × ℕ) : Type 0 where
   more : ℕ

@@ -1,5 +1,5 @@
 -- The decimal of a date: its count of units of 10^-18 s, in seconds.
-use Rattle.std.specs.Prelude.{ℕ, ℤ, pos, negsuc, Bool, true, false, unsigned_abs}
+use Rattle.std.specs.Prelude.{ℤ, pos, negsuc, Bool, true, false, unsigned_abs}
 use Rattle.st_decimal.specs.declared.number.Dec.{Dec}
 use Rattle.st_decimal.specs.Value.{IsScaled}
 

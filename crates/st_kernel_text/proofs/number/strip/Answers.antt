@@ -1,4 +1,4 @@
-use Rattle.std.proofs.Common.{◌≡◌, ◌≤◌, ◌∙◌, sym, arith, ne_eqb, eq-eqb}
+use Rattle.std.proofs.Common.{◌∙◌, sym, arith, ne_eqb, eq-eqb}
 use Rattle.st_kernel_text.proofs.Strip.{strip_more, strip_end, strip_none}
 use Rattle.st_kernel_text.proofs.number.strip.Goals as goal
 

@@ -1,4 +1,4 @@
-use Rattle.std.proofs.Common.{◌≡◌, ◌≤◌, ◌∙◌, sym, arith, rules, Err}
+use Rattle.std.proofs.Common.{◌≡◌, ◌∙◌, sym, arith, rules, Err}
 use Rattle.std.proofs.lemmas.Result.{err_from_is_err_and}
 use Rattle.st_kernel_text.proofs.ReadLines.{lines_step, lines_end, lines_failed, same_failure}
 use Rattle.st_kernel_text.proofs.reading.read_lines.Goals as goal
