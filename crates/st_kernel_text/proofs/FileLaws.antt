@@ -1,11 +1,11 @@
 -- What the reader answers to a file is what the file reads to, or its fault, and nothing else is.
-use Rattle.std.proofs.Common.{inl, inr, ◌⊎◌, ◌≡◌, ℕ, ◌+◌, ◌<◌, ◌≤◌, suc, Bool, true, false, List, [], ◌∷◌, ◌++◌, length, Option, Some, None, Result, Ok, Err, refl, ap, sym, ◌∙◌, subst, arith, append_assoc}
+use Rattle.std.proofs.Common.{inl, inr, ◌⊎◌, ◌≡◌, ℕ, ◌+◌, false, List, [], ◌∷◌, ◌++◌, length, Some, None, Result, Ok, Err, refl, ap, sym, ◌∙◌, subst}
 use Rattle.std.proofs.lemmas.List.{append-nil}
 use Rattle.st_text.specs.Lines.{lines_of}
 use Rattle.st_kernel_text.specs.Fault.{Fault, fails}
 use Rattle.st_kernel_text.specs.Faults.{Row, between, behind_name, behind_sign, in_list, behind_values, Stands, HasFault, IsUnfinished}
 use Rattle.st_kernel_text.specs.File.{data_text, reads_behind, AreGood, IsTooLong, HasBadByte, ReadsTo, HasBadLine, HasBadToken, HasNoEnd, Reads, Agree}
-use Rattle.st_kernel_text.specs.Grammar.{Data, SpellsAll}
+use Rattle.st_kernel_text.specs.Grammar.{Data}
 use Rattle.st_kernel_text.specs.LinesMachine.{line_of, lines_from, read_of}
 use Rattle.st_kernel_text.specs.ParserMachine.{◌>>=◌, Answers, fresh, steps_of, finish_in, finish_of}
 use Rattle.st_kernel_text.specs.declared.assignment.Assignment.{Assignment}
@@ -21,8 +21,8 @@ use Rattle.st_kernel_text.proofs.LineLaws.{kernel, with, good_lines, long_line, 
 use Rattle.st_kernel_text.proofs.Live.{Live, live_between}
 use Rattle.st_kernel_text.proofs.LiveTokens.{Outcomes, went_all, broke_all, live_steps}
 use Rattle.st_kernel_text.proofs.ReadAll.{all_read}
-use Rattle.st_kernel_text.proofs.Rows.{row_read, signed_read, listed_read, ReadsOn}
-use Rattle.st_kernel_text.proofs.Settled.{Settles, settled, live_row, live_end, Ends, ends_well, ends_badly, EndsBadly}
+use Rattle.st_kernel_text.proofs.Rows.{row_read, signed_read, listed_read}
+use Rattle.st_kernel_text.proofs.Settled.{Settles, settled, live_row, live_end, Ends, ends_well, ends_badly}
 use Rattle.st_kernel_text.proofs.States.{signed}
 
 -- the data of lines from the beginning of a file
@@ -43,23 +43,23 @@ front_then_bad : (p : Parser) (front more : List (List ℕ)) (line : List ℕ) (
 front_then_bad p front more line cause good e bad =
     let q : Kernel = kernel p (reads_behind false front) in
     lines-append (kernel start false) 1 front (line ∷ more)
-      ∙ ap (λ (r : Result Kernel Fault). r >>= λ z. lines_from z (1 + length front) (line ∷ more))
-          (good_lines start false 1 front good ∙ ap (with (reads_behind false front)) e)
-      ∙ ap (λ (r : Result Kernel Fault). r >>= λ z. lines_from z (1 + length front + 1) more) (bad_forced q (1 + length front) line cause bad)
+    ∙ ap (λ (r : Result Kernel Fault). r >>= λ z. lines_from z (1 + length front) (line ∷ more))
+    (good_lines start false 1 front good ∙ ap (with (reads_behind false front)) e)
+    ∙ ap (λ (r : Result Kernel Fault). r >>= λ z. lines_from z (1 + length front + 1) more) (bad_forced q (1 + length front) line cause bad)
 
 -- a fault of the data in front is the fault of all
 front_fails : (f : Fault) (front more : List (List ℕ)) → AreGood false front → steps_of start (data_of_lines front) ≡ Err f
     → lines_from (kernel start false) 1 (front ++ more) ≡ Err f
 front_fails f front more good e =
     lines-append (kernel start false) 1 front more
-      ∙ ap (λ (r : Result Kernel Fault). r >>= λ z. lines_from z (1 + length front) more)
-          (good_lines start false 1 front good ∙ ap (with (reads_behind false front)) e)
+    ∙ ap (λ (r : Result Kernel Fault). r >>= λ z. lines_from z (1 + length front) more)
+    (good_lines start false 1 front good ∙ ap (with (reads_behind false front)) e)
 
 finished : (lines : List (List ℕ)) (p : Parser) → AreGood false lines → steps_of start (data_of_lines lines) ≡ Ok p
     → (lines_from (kernel start false) 1 lines >>= λ k. finish_of k.parser) ≡ finish_of p
 finished lines p good e =
     ap (λ (r : Result Kernel Fault). r >>= λ k. finish_of k.parser)
-      (good_lines start false 1 lines good ∙ ap (with (reads_behind false lines)) e)
+    (good_lines start false 1 lines good ∙ ap (with (reads_behind false lines)) e)
 
 failed : (lines : List (List ℕ)) (f : Fault) → lines_from (kernel start false) 1 lines ≡ Err f
     → (lines_from (kernel start false) 1 lines >>= λ k. finish_of k.parser) ≡ Err f
@@ -70,21 +70,21 @@ reads_forced : (bytes : List ℕ) (list : List Assignment) → ReadsTo bytes lis
 unfolding finish_in
 reads_forced bytes list h =
     finished (lines_of bytes) (fresh list) h.good
-      (ap (steps_of start) (sym (append-nil (data_of_lines (lines_of bytes)))) ∙ all_read [] list (data_of_lines (lines_of bytes)) [] h.spells)
+    (ap (steps_of start) (sym (append-nil (data_of_lines (lines_of bytes)))) ∙ all_read [] list (data_of_lines (lines_of bytes)) [] h.spells)
 
 line_forced : (bytes : List ℕ) (n : ℕ) (cause : TextCause) → HasBadLine bytes n cause → read_of bytes ≡ fails n cause
 line_forced bytes n cause h =
     let on = row_read h.row (data_of_lines h.front) h.stands in
     failed (lines_of bytes) (record { line = n; cause = cause })
-      (ap (lines_from (kernel start false) 1) h.whole
-        ∙ front_then_bad on.state h.front h.more h.line cause h.good on.is h.bad
-        ∙ ap (λ (m : ℕ). fails m cause) (sym h.number))
+    (ap (lines_from (kernel start false) 1) h.whole
+    ∙ front_then_bad on.state h.front h.more h.line cause h.good on.is h.bad
+    ∙ ap (λ (m : ℕ). fails m cause) (sym h.number))
 
 token_forced : (bytes : List ℕ) (n : ℕ) (cause : TextCause) → HasBadToken bytes n cause → read_of bytes ≡ fails n cause
 token_forced bytes n cause h =
     failed (lines_of bytes) (record { line = n; cause = cause })
-      (ap (lines_from (kernel start false) 1) h.whole
-        ∙ front_fails (record { line = n; cause = cause }) h.front h.more h.good (fault_forced (data_of_lines h.front) n cause h.fault))
+    (ap (lines_from (kernel start false) 1) h.whole
+    ∙ front_fails (record { line = n; cause = cause }) h.front h.more h.good (fault_forced (data_of_lines h.front) n cause h.fault))
 
 unfinished_forced : (row : Row) (t : Data) (n : ℕ) (cause : TextCause) → Stands row t [] → IsUnfinished row n cause
     → (p : Parser) × ((steps_of start t ≡ Ok p) × (finish_of p ≡ fails n cause))
@@ -92,15 +92,21 @@ unfolding finish_in
 unfinished_forced between t n cause s u = absurd u
 unfinished_forced behind_name t n cause s u = absurd u
 unfinished_forced (behind_sign line) t n cause s (l, c) =
-    let r = signed_read line t [] s in
-    (signed Signed r.done r.name r.mode line None [] [],
-      (ap (steps_of start) (sym (append-nil t)) ∙ r.is,
-        ap (λ (m : ℕ). fails m NoValue) (sym l) ∙ ap (λ (z : TextCause). fails n z) (sym c)))
+    let r = signed_read line t [] s in (
+      signed Signed r.done r.name r.mode line None [] [],
+      (
+        ap (steps_of start) (sym (append-nil t)) ∙ r.is,
+        ap (λ (m : ℕ). fails m NoValue) (sym l) ∙ ap (λ (z : TextCause). fails n z) (sym c),
+      ),
+    )
 unfinished_forced (in_list line vs) t n cause s (l, c) =
-    let r = listed_read line vs t [] s in
-    (signed InList r.done r.name r.mode r.sign_line (Some line) vs [],
-      (ap (steps_of start) (sym (append-nil t)) ∙ r.is,
-        ap (λ (m : ℕ). fails m Unclosed) (sym l) ∙ ap (λ (z : TextCause). fails n z) (sym c)))
+    let r = listed_read line vs t [] s in (
+      signed InList r.done r.name r.mode r.sign_line (Some line) vs [],
+      (
+        ap (steps_of start) (sym (append-nil t)) ∙ r.is,
+        ap (λ (m : ℕ). fails m Unclosed) (sym l) ∙ ap (λ (z : TextCause). fails n z) (sym c),
+      ),
+    )
 unfinished_forced behind_values t n cause s u = absurd u
 
 end_forced : (bytes : List ℕ) (n : ℕ) (cause : TextCause) → HasNoEnd bytes n cause → read_of bytes ≡ fails n cause
@@ -131,36 +137,36 @@ outcome_is bytes good (Err f) h =
 token_is : (bytes : List ℕ) (front more : List (List ℕ)) (f : Fault) → lines_of bytes ≡ front ++ more → AreGood false front
     → Outcomes [] (data_of_lines front) (Err f) → HasBadToken bytes f.line f.cause
 token_is bytes front more f w good h = record {
-    front = front;
-    more = more;
-    good = good;
-    fault = subst (λ (z : Data). HasFault z f.line f.cause) (append-nil (data_of_lines front)) (broke_all [] (data_of_lines front) f h []);
-    whole = w
-  }
+  front = front;
+  more = more;
+  good = good;
+  fault = subst (λ (z : Data). HasFault z f.line f.cause) (append-nil (data_of_lines front)) (broke_all [] (data_of_lines front) f h []);
+  whole = w;
+}
 
 all_good : (bytes : List ℕ) → AreGood false (lines_of bytes) → (r : Result Parser Fault) → steps_of start (data_of_lines (lines_of bytes)) ≡ r
     → Outcomes [] (data_of_lines (lines_of bytes)) r → Settles r → Is bytes (read_of bytes)
 all_good bytes good (Ok p) e h s =
     subst (Is bytes) (sym (finished (lines_of bytes) p good e))
-      (outcome_is bytes good (finish_of p) (live_end (data_of_lines (lines_of bytes)) p (went_all [] (data_of_lines (lines_of bytes)) p h) (settled p s)))
+    (outcome_is bytes good (finish_of p) (live_end (data_of_lines (lines_of bytes)) p (went_all [] (data_of_lines (lines_of bytes)) p h) (settled p s)))
 all_good bytes good (Err f) e h s =
     let whole : lines_of bytes ≡ lines_of bytes ++ [] = sym (append-nil (lines_of bytes)) in
     subst (Is bytes)
-      (sym (failed (lines_of bytes) f (ap (lines_from (kernel start false) 1) whole ∙ front_fails f (lines_of bytes) [] good e)))
-      (inr (inl (token_is bytes (lines_of bytes) [] f whole good h)))
+    (sym (failed (lines_of bytes) f (ap (lines_from (kernel start false) 1) whole ∙ front_fails f (lines_of bytes) [] good e)))
+    (inr (inl (token_is bytes (lines_of bytes) [] f whole good h)))
 
 one_bad : (bytes : List ℕ) → (b : FirstBad false (lines_of bytes)) → (r : Result Parser Fault) → steps_of start (data_of_lines b.front) ≡ r
     → Outcomes [] (data_of_lines b.front) r → Settles r → Is bytes (read_of bytes)
 one_bad bytes b (Ok p) e h s =
     let at = live_row (data_of_lines b.front) p (went_all [] (data_of_lines b.front) p h) (settled p s) in
     subst (Is bytes)
-      (sym (failed (lines_of bytes) (record { line = 1 + length b.front; cause = b.cause })
-        (ap (lines_from (kernel start false) 1) b.whole ∙ front_then_bad p b.front b.more b.line b.cause b.good e b.bad)))
-      (inl (record { front = b.front; line = b.line; more = b.more; row = at.row; good = b.good; stands = at.stands; bad = b.bad; number = refl; whole = b.whole }))
+    (sym (failed (lines_of bytes) (record { line = 1 + length b.front; cause = b.cause })
+    (ap (lines_from (kernel start false) 1) b.whole ∙ front_then_bad p b.front b.more b.line b.cause b.good e b.bad)))
+    (inl (record { front = b.front; line = b.line; more = b.more; row = at.row; good = b.good; stands = at.stands; bad = b.bad; number = refl; whole = b.whole }))
 one_bad bytes b (Err f) e h s =
     subst (Is bytes)
-      (sym (failed (lines_of bytes) f (ap (lines_from (kernel start false) 1) b.whole ∙ front_fails f b.front (b.line ∷ b.more) b.good e)))
-      (inr (inl (token_is bytes b.front (b.line ∷ b.more) f b.whole b.good h)))
+    (sym (failed (lines_of bytes) f (ap (lines_from (kernel start false) 1) b.whole ∙ front_fails f b.front (b.line ∷ b.more) b.good e)))
+    (inr (inl (token_is bytes b.front (b.line ∷ b.more) f b.whole b.good h)))
 
 by_lines : (bytes : List ℕ) → AreGood false (lines_of bytes) ⊎ FirstBad false (lines_of bytes) → Is bytes (read_of bytes)
 by_lines bytes (inl good) =
@@ -180,16 +186,16 @@ reads bytes (Err OutOfMemory) h = tt
 pub only : (bytes : List ℕ) (r a : Result (List Assignment) TextFault) → Answers r (read_of bytes) → Reads bytes a → Agree r a
 only bytes (Ok list) (Ok other) h k = let e : Ok list ≡ Ok other = sym h ∙ reads_forced bytes other k in ap same_list e
   where
-  same_list : Result (List Assignment) Fault → Result (List Assignment) TextFault
-  same_list (Ok x) = Ok x
-  same_list (Err f) = Err (At f.line f.cause)
+    same_list : Result (List Assignment) Fault → Result (List Assignment) TextFault
+    same_list (Ok x) = Ok x
+    same_list (Err f) = Err (At f.line f.cause)
 only bytes (Ok list) (Err (At n cause)) h k = let e : Ok list ≡ fails n cause = sym h ∙ forced bytes n cause k in absurd (cc)
 only bytes (Ok list) (Err OutOfMemory) h k = tt
 only bytes (Err (At n cause)) (Ok other) h k = let e : fails n cause ≡ Ok other = sym h ∙ reads_forced bytes other k in absurd (cc)
 only bytes (Err (At n cause)) (Err (At m other)) h k = let e : fails n cause ≡ fails m other = sym h ∙ forced bytes m other k in ap same_fault e
   where
-  same_fault : Result (List Assignment) Fault → Result (List Assignment) TextFault
-  same_fault (Ok x) = Ok x
-  same_fault (Err f) = Err (At f.line f.cause)
+    same_fault : Result (List Assignment) Fault → Result (List Assignment) TextFault
+    same_fault (Ok x) = Ok x
+    same_fault (Err f) = Err (At f.line f.cause)
 only bytes (Err (At n cause)) (Err OutOfMemory) h k = tt
 only bytes (Err OutOfMemory) a h k = tt

@@ -1,24 +1,21 @@
 -- A name and its sign are read as they are spelled.
-use Rattle.std.proofs.Common.{inl, inr, ◌⊎◌, ◌≡◌, ℕ, ◌+◌, ◌-◌, ◌<◌, ◌≤◌, zero, suc, Bool, true, false, not, ◌&&◌, List, [], ◌∷◌, ◌++◌, length, take, get_or, Option, Some, None, Result, Ok, Err, refl, ap, sym, ◌∙◌, subst, arith, append_assoc}
-use Rattle.std.specs.Prelude.{◌==◌, ◌||◌, nat_le, nat_lt, if◌then◌else◌}
+use Rattle.std.proofs.Common.{inl, inr, ◌≡◌, ℕ, ◌-◌, ◌<◌, Bool, true, false, ◌&&◌, List, [], ◌∷◌, ◌++◌, length, take, get_or, None, Ok, refl, ap, sym, ◌∙◌, subst, arith, append_assoc}
+use Rattle.std.specs.Prelude.{◌==◌}
 use Rattle.std.specs.List.{list_all}
-use Rattle.std.proofs.lemmas.Bool.{and_parts, and_from, cond-true, cond-false, leb-true, ltb-true, lt-ltb, le-leb, eqb-true, eq-eqb, ne_eqb, both_ways, not-true, cases_Bool, not_from_false}
-use Rattle.std.proofs.lemmas.Bool.Decides.{nat_tests}
+use Rattle.std.proofs.lemmas.Bool.{and_parts, and_from, cond-true, cond-false, leb-true, ltb-true, lt-ltb, le-leb, eqb-true, both_ways, not-true, cases_Bool, not_from_false}
 use Rattle.std.proofs.lemmas.Grind.{common_steps}
-use Rattle.std.proofs.lemmas.List.{append-nil, length_push, get_or_push, take_all}
+use Rattle.std.proofs.lemmas.List.{append-nil, length_push, get_or_push}
 use Rattle.std.proofs.Math.Seq.{take-append_seam}
 use Rattle.st_text.specs.Bytes.{is_blank}
 use Rattle.st_text.proofs.Trimmed.{front_and_last}
 use Rattle.st_kernel_text.specs.Bytes.{is_space, is_name_byte}
-use Rattle.st_kernel_text.specs.Fault.{Fault, fails}
 use Rattle.st_kernel_text.specs.Grammar.{Data, plain, IsName, SpellsSign, SpellsHead}
-use Rattle.st_kernel_text.specs.ParserMachine.{◌>>=◌, fresh, is_name, ends_in_plus, without_last, step_of, steps_of, named_of}
+use Rattle.st_kernel_text.specs.ParserMachine.{fresh, is_name, ends_in_plus, without_last, step_of, steps_of, named_of}
 use Rattle.st_kernel_text.specs.declared.assignment.Assignment.{Assignment}
 use Rattle.st_kernel_text.specs.declared.assignment.Mode.{Mode}
 use Rattle.st_kernel_text.specs.declared.assignment.Mode.TheVariants.{Set, Add}
-use Rattle.st_kernel_text.specs.declared.parser.Parser.{Parser}
-use Rattle.st_kernel_text.specs.declared.parser.Stage.TheVariants.{Fresh, Name, Named, Plus, Signed}
-use Rattle.st_kernel_text.proofs.States.{naming, signed, one_step, skip, name_byte_no_space, blank_no_name_byte, blank_no_equals}
+use Rattle.st_kernel_text.specs.declared.parser.Stage.TheVariants.{Name, Named, Plus, Signed}
+use Rattle.st_kernel_text.proofs.States.{naming, signed, one_step, skip, name_byte_no_space, blank_no_name_byte}
 
 pub plus_snoc : (front : List ℕ) (x : ℕ) → ends_in_plus (front ++ x ∷ []) ≡ (x == 43)
 unfolding ends_in_plus
@@ -26,7 +23,7 @@ plus_snoc front x =
     let size = length_push front x in
     let last : get_or (front ++ x ∷ []) (length (front ++ x ∷ []) - 1) 0 ≡ x = get_or_push front x 0 _ (omega arith) in
     ap (λ (b : Bool). b && (get_or (front ++ x ∷ []) (length (front ++ x ∷ []) - 1) 0 == 43)) (lt-ltb 0 _ (omega arith))
-      ∙ ap (λ (z : ℕ). z == 43) last
+    ∙ ap (λ (z : ℕ). z == 43) last
 
 pub without_last_snoc : (front : List ℕ) (x : ℕ) → without_last (front ++ x ∷ []) ≡ front
 without_last_snoc front x =
@@ -57,7 +54,7 @@ name_from name h bytes =
       some = ltb-true _ _ sizes.0;
       most = leb-true _ _ sizes.1;
       bytes = bytes;
-      last = λ front e. both_ways (ends_in_plus name) (not-true _ both.1) (ap ends_in_plus e ∙ plus_snoc front 43)
+      last = λ front e. both_ways (ends_in_plus name) (not-true _ both.1) (ap ends_in_plus e ∙ plus_snoc front 43);
     }
 
 -- from the first byte of a name to its last
@@ -75,8 +72,8 @@ name_more done w [] rest h = ap (λ (z : List ℕ). steps_of (naming Name done z
 name_more done w (b ∷ word) rest h =
     let both = and_parts (is_name_byte b.1) (list_all is_name_byte (plain word)) h in
     one_step _ _ b.0 b.1 (word ++ rest) (name_step done w b.0 b.1 both.0)
-      ∙ name_more done (w ++ b.1 ∷ []) word rest both.1
-      ∙ ap (λ (z : List ℕ). steps_of (naming Name done z) rest) (append_assoc w (b.1 ∷ []) (plain word))
+    ∙ name_more done (w ++ b.1 ∷ []) word rest both.1
+    ∙ ap (λ (z : List ℕ). steps_of (naming Name done z) rest) (append_assoc w (b.1 ∷ []) (plain word))
 
 pub name_read : (done : List Assignment) (word rest : Data) → 0 < length (plain word) → list_all is_name_byte (plain word) ≡ true
     → steps_of (fresh done) (word ++ rest) ≡ steps_of (naming Name done (plain word)) rest
@@ -107,7 +104,7 @@ pub blanks_read : (done : List Assignment) (name : List ℕ) (b : ℕ × ℕ) (b
 blanks_read done name b blanks rest h e =
     let both = and_parts (is_blank b.1) (list_all is_blank (plain blanks)) e in
     one_step _ _ b.0 b.1 (blanks ++ rest) (blank_ends done name b.0 b.1 h both.0)
-      ∙ skip (naming Named done name) is_blank blanks rest (named_blank done name) both.1
+    ∙ skip (naming Named done name) is_blank blanks rest (named_blank done name) both.1
 
 equals_no_byte : is_name_byte 61 ≡ false
 unfolding is_name_byte
@@ -141,7 +138,7 @@ unfolding step_of is_name_byte
 add_name done name n h =
     let is : is_name (without_last (name ++ 43 ∷ [])) ≡ true = ap is_name (without_last_snoc name 43) ∙ name_test name h in
     cond-true _ _ _ (plus_snoc name 43) ∙ cond-true _ _ _ is
-      ∙ ap (λ (z : List ℕ). Ok (signed Signed done z Add n None [] [])) (without_last_snoc name 43)
+    ∙ ap (λ (z : List ℕ). Ok (signed Signed done z Add n None [] [])) (without_last_snoc name 43)
 
 sign_named : (done : List Assignment) (name : List ℕ) (mode : Mode) (n : ℕ) (sign rest : Data) → SpellsSign mode n sign
     → steps_of (naming Named done name) (sign ++ rest) ≡ steps_of (signed Signed done name mode n None [] []) rest
@@ -149,7 +146,7 @@ sign_named done name Set n sign rest h =
     ap (λ (z : Data). steps_of (naming Named done name) (z ++ rest)) h ∙ one_step _ _ n 61 rest (set_named done name n)
 sign_named done name Add n sign rest h =
     ap (λ (z : Data). steps_of (naming Named done name) (z ++ rest)) h.1
-      ∙ one_step _ _ h.0 43 ((n, 61) ∷ rest) (plus_named done name h.0) ∙ one_step _ _ n 61 rest (add_plus done name n)
+    ∙ one_step _ _ h.0 43 ((n, 61) ∷ rest) (plus_named done name h.0) ∙ one_step _ _ n 61 rest (add_plus done name n)
 
 sign_name : (done : List Assignment) (name : List ℕ) (mode : Mode) (n : ℕ) (sign rest : Data) → IsName name → SpellsSign mode n sign
     → steps_of (naming Name done name) (sign ++ rest) ≡ steps_of (signed Signed done name mode n None [] []) rest
@@ -157,7 +154,7 @@ sign_name done name Set n sign rest i h =
     ap (λ (z : Data). steps_of (naming Name done name) (z ++ rest)) h ∙ one_step _ _ n 61 rest (set_name done name n i)
 sign_name done name Add n sign rest i h =
     ap (λ (z : Data). steps_of (naming Name done name) (z ++ rest)) h.1
-      ∙ one_step _ _ h.0 43 ((n, 61) ∷ rest) (plus_name done name h.0) ∙ one_step _ _ n 61 rest (add_name done name n i)
+    ∙ one_step _ _ h.0 43 ((n, 61) ∷ rest) (plus_name done name h.0) ∙ one_step _ _ n 61 rest (add_name done name n i)
 
 behind_name : (done : List Assignment) (name : List ℕ) (mode : Mode) (n : ℕ) (blanks sign rest : Data) → IsName name
     → list_all is_blank (plain blanks) ≡ true → SpellsSign mode n sign
@@ -177,9 +174,9 @@ head_read done name mode n t rest h =
     let some : 0 < length (plain h.word) = subst (λ (z : List ℕ). 0 < length z) (sym h.is) h.name_is.some in
     let bytes : list_all is_name_byte (plain h.word) ≡ true = ap (list_all is_name_byte) h.is ∙ h.name_is.bytes in
     ap (λ (z : Data). steps_of (fresh done) (z ++ rest)) h.whole
-      ∙ ap (steps_of (fresh done)) (append_assoc h.word (h.blanks ++ (h.sign ++ h.spaces)) rest)
-      ∙ name_read done h.word ((h.blanks ++ (h.sign ++ h.spaces)) ++ rest) some bytes
-      ∙ ap (λ (z : List ℕ). steps_of (naming Name done z) ((h.blanks ++ (h.sign ++ h.spaces)) ++ rest)) h.is
-      ∙ ap (steps_of (naming Name done name)) (append_assoc h.blanks (h.sign ++ h.spaces) rest ∙ ap (λ (z : Data). h.blanks ++ z) (append_assoc h.sign h.spaces rest))
-      ∙ behind_name done name mode n h.blanks h.sign (h.spaces ++ rest) h.name_is h.are_blanks h.sign_is
-      ∙ skip (signed Signed done name mode n None [] []) is_space h.spaces rest (space_before done name mode n) h.are_spaces
+    ∙ ap (steps_of (fresh done)) (append_assoc h.word (h.blanks ++ (h.sign ++ h.spaces)) rest)
+    ∙ name_read done h.word ((h.blanks ++ (h.sign ++ h.spaces)) ++ rest) some bytes
+    ∙ ap (λ (z : List ℕ). steps_of (naming Name done z) ((h.blanks ++ (h.sign ++ h.spaces)) ++ rest)) h.is
+    ∙ ap (steps_of (naming Name done name)) (append_assoc h.blanks (h.sign ++ h.spaces) rest ∙ ap (λ (z : Data). h.blanks ++ z) (append_assoc h.sign h.spaces rest))
+    ∙ behind_name done name mode n h.blanks h.sign (h.spaces ++ rest) h.name_is h.are_blanks h.sign_is
+    ∙ skip (signed Signed done name mode n None [] []) is_space h.spaces rest (space_before done name mode n) h.are_spaces

@@ -1,3 +1,4 @@
+mod Examples
 pub mod FileLaws
 pub mod Forced
 pub mod Grows

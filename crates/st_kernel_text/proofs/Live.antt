@@ -1,5 +1,5 @@
 -- What the data so far are, in each state of the reader, and what one more byte makes of them.
-use Rattle.std.proofs.Common.{inl, inr, ◌⊎◌, ◌≡◌, ℕ, ◌<◌, Bool, true, List, [], ◌∷◌, ◌++◌, length, Option, Some, None, Result, Ok, Err, refl, ap, sym, ◌∙◌, subst, append_assoc}
+use Rattle.std.proofs.Common.{◌≡◌, ℕ, ◌<◌, true, List, [], ◌∷◌, ◌++◌, length, Option, Some, None, Result, Ok, Err}
 use Rattle.std.specs.List.{list_all}
 use Rattle.st_text.specs.Bytes.{is_blank}
 use Rattle.st_kernel_text.specs.Bytes.{is_name_byte, is_run_byte}

@@ -1,31 +1,29 @@
 -- One more byte in a value, and all bytes one by one.
-use Rattle.std.proofs.Common.{inl, inr, ◌⊎◌, ◌≡◌, ℕ, ◌+◌, ◌<◌, ◌≤◌, Bool, true, false, not, ◌&&◌, List, [], ◌∷◌, ◌++◌, length, Option, Some, None, Result, Ok, Err, refl, ap, sym, ◌∙◌, subst, arith, append_assoc}
-use Rattle.std.specs.Prelude.{◌==◌, ◌||◌, nat_lt, if◌then◌else◌}
+use Rattle.std.proofs.Common.{inl, inr, ◌⊎◌, ◌≡◌, ℕ, ◌<◌, true, false, List, [], ◌∷◌, ◌++◌, length, Option, Some, None, Result, Ok, Err, refl, ap, sym, ◌∙◌, subst, arith, append_assoc}
+use Rattle.std.specs.Prelude.{◌==◌, ◌||◌, nat_lt}
 use Rattle.std.specs.List.{list_all}
-use Rattle.std.proofs.lemmas.Bool.{and_parts, and_from, cond-true, cond-false, cond_both, cases_Bool, eqb-true, eqb-false, eq-eqb, or_left, or_right, both_ways, ltb-true, ltb-false, not_from_false}
+use Rattle.std.proofs.lemmas.Bool.{and_parts, and_from, cond_both, eqb-true, or_left, or_right, both_ways, ltb-true, ltb-false, not_from_false}
 use Rattle.std.proofs.lemmas.Bool.Decides.{nat_tests}
 use Rattle.std.proofs.lemmas.Grind.{common_steps}
 use Rattle.std.proofs.lemmas.List.{append-nil, length_push}
 use Rattle.std.proofs.lemmas.List.Folds.{list_all-append}
 use Rattle.st_decimal.specs.declared.number.Dec.{Dec}
 use Rattle.st_kernel_text.specs.Bytes.{is_run_byte}
-use Rattle.st_kernel_text.specs.Fault.{Fault, fails}
-use Rattle.st_kernel_text.specs.Faults.{HasFault, HasBadValue, BeginsWithout, is_quote}
+use Rattle.st_kernel_text.specs.Fault.{Fault}
+use Rattle.st_kernel_text.specs.Faults.{HasFault, BeginsWithout, is_quote}
 use Rattle.st_kernel_text.specs.Grammar.{Data, plain}
-use Rattle.st_kernel_text.specs.ParserMachine.{◌>>=◌, fresh, put_of, taken_of, push_quoted, step_of, steps_of}
+use Rattle.st_kernel_text.specs.ParserMachine.{◌>>=◌, taken_of, step_of, steps_of}
 use Rattle.st_kernel_text.specs.ValueMachine.{number_of_run}
 use Rattle.st_kernel_text.specs.Values.{ReadsRun, IsContent, quoted, cause_of_run, is_no_line_end, may_follow}
-use Rattle.st_kernel_text.specs.declared.fault.TextCause.{TextCause}
 use Rattle.st_kernel_text.specs.declared.fault.TextCause.TheVariants.{BadString}
 use Rattle.st_kernel_text.specs.declared.parser.Parser.{Parser}
 use Rattle.st_kernel_text.specs.declared.parser.Stage.TheVariants.{Run, Quote}
-use Rattle.st_kernel_text.specs.declared.value.Value.{Value}
 use Rattle.st_kernel_text.specs.declared.value.Value.TheVariants.{Number, Text}
 use Rattle.st_kernel_text.proofs.Grows.{all_more, quoted_byte, quoted_quote}
-use Rattle.st_kernel_text.proofs.Live.{IsBetween, IsNaming, IsNamed, IsPlus, IsSigned, IsListed, Waits, waits_signed, waits_listed, IsInRun, IsInText, IsAtQuote, IsClosed, Live, live_between, live_naming, live_named, live_plus, live_waits, live_run, live_text, live_quote, live_closed, Outcome, goes_on, breaks_off, went_on, broke_off}
+use Rattle.st_kernel_text.proofs.Live.{Waits, waits_signed, waits_listed, Live, live_between, live_naming, live_named, live_plus, live_waits, live_run, live_text, live_quote, live_closed, Outcome, goes_on, breaks_off, went_on, broke_off}
 use Rattle.st_kernel_text.proofs.LiveNames.{on_between, on_naming, on_named, on_plus}
 use Rattle.st_kernel_text.proofs.LiveValues.{OpensValue, value_breaks, on_signed, on_list, on_behind, put_value}
-use Rattle.st_kernel_text.proofs.ReadValues.{opens_value, in_run, in_text, at_quote, put_same}
+use Rattle.st_kernel_text.proofs.ReadValues.{in_run, in_text, at_quote, put_same}
 use Rattle.st_kernel_text.proofs.Runs.{run_reads, run_none}
 use Rattle.st_kernel_text.proofs.States.{plain-append, follow_no_stop, run_no_quote}
 
@@ -47,18 +45,21 @@ bad_run : (t front word : Data) (q : Parser) (n b : ℕ) → Waits front q → 0
     → (rest : Data) → HasFault (t ++ ((n, b) ∷ rest)) n (cause_of_run (plain word))
 bad_run t front word q n b waits some bytes w byte none rest =
     subst (λ (z : Data). HasFault z n (cause_of_run (plain word)))
-      (sym (ap (λ (z : Data). z ++ ((n, b) ∷ rest)) w ∙ append_assoc front word ((n, b) ∷ rest)))
-      (value_breaks front (word ++ ((n, b) ∷ rest)) q n (cause_of_run (plain word)) waits (opens_run word ((n, b) ∷ rest) some bytes)
-        (inl (no_quote_first word ((n, b) ∷ rest) some bytes, record {
-          word = word;
-          byte = b;
-          more = rest;
-          bytes = bytes;
-          longest = byte;
-          none = none;
-          cause_is = refl;
-          whole = refl
-        })))
+    (sym (ap (λ (z : Data). z ++ ((n, b) ∷ rest)) w ∙ append_assoc front word ((n, b) ∷ rest)))
+    (value_breaks front (word ++ ((n, b) ∷ rest)) q n (cause_of_run (plain word)) waits (opens_run word ((n, b) ∷ rest) some bytes)
+    (inl (
+      no_quote_first word ((n, b) ∷ rest) some bytes,
+      record {
+        word = word;
+        byte = b;
+        more = rest;
+        bytes = bytes;
+        longest = byte;
+        none = none;
+        cause_is = refl;
+        whole = refl;
+      },
+    )))
 
 run_stop : (b : ℕ) → is_run_byte b ≡ false → ((b == 40) || (b == 39)) ≡ false → may_follow b ≡ true
 unfolding is_run_byte
@@ -71,51 +72,51 @@ taken t front word q n b waits some bytes w byte f None e =
     breaks_off t n b _ (bad_run t front word q n b waits some bytes w byte (λ g. run_none (plain word) e))
 taken t front word q n b waits some bytes w byte f (Some d) e =
     subst (Outcome t n b) (sym (put_same q Run (plain word) (Number d) n b))
-      (put_value t front word q (Number d) n b waits (record { bytes = bytes; reads = run_reads (plain word) d e }) f w)
+    (put_value t front word q (Number d) n b waits (record { bytes = bytes; reads = run_reads (plain word) d e }) f w)
 
 on_run : (t front word : Data) (q : Parser) (n b : ℕ) → Waits front q → 0 < length (plain word) → list_all is_run_byte (plain word) ≡ true
     → t ≡ front ++ word → Outcome t n b (step_of (in_run q (plain word)) n b)
 unfolding step_of
 on_run t front word q n b waits some bytes w =
     cond_both (is_run_byte b) _ _ (Outcome t n b)
-      (λ byte. goes_on t n b (in_run q (plain word ++ b ∷ [])) (live_run (record {
-        state = q;
-        front = front;
-        word = word ++ (n, b) ∷ [];
-        is = ap (in_run q) (sym (plain-append word ((n, b) ∷ [])));
-        waits = waits;
-        some = run_more_some word (n, b);
-        bytes = all_more is_run_byte word n b bytes byte;
-        whole = ap (λ (z : Data). z ++ (n, b) ∷ []) w ∙ append_assoc front word ((n, b) ∷ [])
-      })))
-      (λ byte. cond_both ((b == 40) || (b == 39)) _ _ (Outcome t n b)
-        (λ stop. breaks_off t n b _ (bad_run t front word q n b waits some bytes w byte
-          (λ f d r. both_ways _ (follow_no_stop b f) stop)))
-        (λ stop. taken t front word q n b waits some bytes w byte (run_stop b byte stop) (number_of_run (plain word)) refl))
+    (λ byte. goes_on t n b (in_run q (plain word ++ b ∷ [])) (live_run (record {
+      state = q;
+      front = front;
+      word = word ++ (n, b) ∷ [];
+      is = ap (in_run q) (sym (plain-append word ((n, b) ∷ [])));
+      waits = waits;
+      some = run_more_some word (n, b);
+      bytes = all_more is_run_byte word n b bytes byte;
+      whole = ap (λ (z : Data). z ++ (n, b) ∷ []) w ∙ append_assoc front word ((n, b) ∷ []);
+    })))
+    (λ byte. cond_both ((b == 40) || (b == 39)) _ _ (Outcome t n b)
+    (λ stop. breaks_off t n b _ (bad_run t front word q n b waits some bytes w byte
+    (λ f d r. both_ways _ (follow_no_stop b f) stop)))
+    (λ stop. taken t front word q n b waits some bytes w byte (run_stop b byte stop) (number_of_run (plain word)) refl))
 
 -- strings
 text_breaks : (t front text : Data) (q : Parser) (k n b : ℕ) (content : List ℕ) → Waits front q → IsContent content → plain text ≡ quoted content
     → t ≡ front ++ ((k, 39) ∷ text) → (b ≡ 10) ⊎ ((length content ≡ 80) × ((b == 39) ≡ false)) → (rest : Data) → HasFault (t ++ ((n, b) ∷ rest)) n BadString
 text_breaks t front text q k n b content waits c e w how rest =
     subst (λ (z : Data). HasFault z n BadString)
-      (sym (ap (λ (z : Data). z ++ ((n, b) ∷ rest)) w ∙ append_assoc front ((k, 39) ∷ text) ((n, b) ∷ rest)))
-      (value_breaks front ((k, 39) ∷ (text ++ ((n, b) ∷ rest))) q n BadString waits (or_right _ _ refl)
-        (inr (refl, inl (record { opened = k; content = content; text = text; byte = b; more = rest; content_is = c; written = e; breaks = how; whole = refl }))))
+    (sym (ap (λ (z : Data). z ++ ((n, b) ∷ rest)) w ∙ append_assoc front ((k, 39) ∷ text) ((n, b) ∷ rest)))
+    (value_breaks front ((k, 39) ∷ (text ++ ((n, b) ∷ rest))) q n BadString waits (or_right _ _ refl)
+    (inr (refl, inl (record { opened = k; content = content; text = text; byte = b; more = rest; content_is = c; written = e; breaks = how; whole = refl }))))
 
 quote_breaks : (t front text : Data) (q : Parser) (k n b : ℕ) (content : List ℕ) → Waits front q → IsContent content → plain text ≡ quoted content ++ 39 ∷ []
     → t ≡ front ++ ((k, 39) ∷ text) → ((b ≡ 39) × (length content ≡ 80)) ⊎ (((b == 39) ≡ false) × (may_follow b ≡ false))
     → (rest : Data) → HasFault (t ++ ((n, b) ∷ rest)) n BadString
 quote_breaks t front text q k n b content waits c e w how rest =
     subst (λ (z : Data). HasFault z n BadString)
-      (sym (ap (λ (z : Data). z ++ ((n, b) ∷ rest)) w ∙ append_assoc front ((k, 39) ∷ text) ((n, b) ∷ rest)))
-      (value_breaks front ((k, 39) ∷ (text ++ ((n, b) ∷ rest))) q n BadString waits (or_right _ _ refl)
-        (inr (refl, inr (record { opened = k; content = content; text = text; byte = b; more = rest; content_is = c; written = e; breaks = how; whole = refl }))))
+    (sym (ap (λ (z : Data). z ++ ((n, b) ∷ rest)) w ∙ append_assoc front ((k, 39) ∷ text) ((n, b) ∷ rest)))
+    (value_breaks front ((k, 39) ∷ (text ++ ((n, b) ∷ rest))) q n BadString waits (or_right _ _ refl)
+    (inr (refl, inr (record { opened = k; content = content; text = text; byte = b; more = rest; content_is = c; written = e; breaks = how; whole = refl }))))
 
 content_more : (content : List ℕ) (b : ℕ) → IsContent content → nat_lt (length content) 80 ≡ true → (b == 10) ≡ false → IsContent (content ++ b ∷ [])
 content_more content b c h e = record {
-    most = omega (arith, length_push content b, ltb-true (length content) 80 h);
-    one_line = list_all-append is_no_line_end content (b ∷ []) ∙ and_from _ _ c.one_line (and_from _ _ (not_from_false _ e) refl)
-  }
+  most = omega (arith, length_push content b, ltb-true (length content) 80 h);
+  one_line = list_all-append is_no_line_end content (b ∷ []) ∙ and_from _ _ c.one_line (and_from _ _ (not_from_false _ e) refl);
+}
 
 full : (content : List ℕ) → IsContent content → nat_lt (length content) 80 ≡ false → length content ≡ 80
 full content c h = omega (arith, c.most, ltb-false (length content) 80 h)
@@ -128,62 +129,62 @@ on_text : (t front text : Data) (q : Parser) (k n b : ℕ) (content : List ℕ) 
 unfolding step_of
 on_text t front text q k n b content waits c e w =
     cond_both (b == 39) _ _ (Outcome t n b)
-      (λ quote. goes_on t n b (at_quote q content) (live_quote (record {
-        state = q;
-        front = front;
-        line = k;
-        text = text ++ (n, b) ∷ [];
-        content = content;
-        is = refl;
-        waits = waits;
-        content_is = c;
-        written = plain-append text ((n, b) ∷ []) ∙ ap (λ (z : List ℕ). z ++ b ∷ []) e ∙ ap (λ (z : ℕ). quoted content ++ z ∷ []) (eqb-true b 39 quote);
-        whole = text_longer t front text k n b w
-      })))
-      (λ quote. cond_both (b == 10) _ _ (Outcome t n b)
-        (λ end. breaks_off t n b _ (text_breaks t front text q k n b content waits c e w (inl (eqb-true b 10 end))))
-        (λ end. cond_both (nat_lt (length content) 80) _ _ (Outcome t n b)
-          (λ room. goes_on t n b (in_text q (content ++ b ∷ [])) (live_text (record {
-            state = q;
-            front = front;
-            line = k;
-            text = text ++ (n, b) ∷ [];
-            content = content ++ b ∷ [];
-            is = refl;
-            waits = waits;
-            content_is = content_more content b c room end;
-            written = plain-append text ((n, b) ∷ []) ∙ ap (λ (z : List ℕ). z ++ b ∷ []) e ∙ sym (quoted_byte content b quote);
-            whole = text_longer t front text k n b w
-          })))
-          (λ room. breaks_off t n b _ (text_breaks t front text q k n b content waits c e w (inr (full content c room, quote))))))
+    (λ quote. goes_on t n b (at_quote q content) (live_quote (record {
+      state = q;
+      front = front;
+      line = k;
+      text = text ++ (n, b) ∷ [];
+      content = content;
+      is = refl;
+      waits = waits;
+      content_is = c;
+      written = plain-append text ((n, b) ∷ []) ∙ ap (λ (z : List ℕ). z ++ b ∷ []) e ∙ ap (λ (z : ℕ). quoted content ++ z ∷ []) (eqb-true b 39 quote);
+      whole = text_longer t front text k n b w;
+    })))
+    (λ quote. cond_both (b == 10) _ _ (Outcome t n b)
+    (λ end. breaks_off t n b _ (text_breaks t front text q k n b content waits c e w (inl (eqb-true b 10 end))))
+    (λ end. cond_both (nat_lt (length content) 80) _ _ (Outcome t n b)
+    (λ room. goes_on t n b (in_text q (content ++ b ∷ [])) (live_text (record {
+      state = q;
+      front = front;
+      line = k;
+      text = text ++ (n, b) ∷ [];
+      content = content ++ b ∷ [];
+      is = refl;
+      waits = waits;
+      content_is = content_more content b c room end;
+      written = plain-append text ((n, b) ∷ []) ∙ ap (λ (z : List ℕ). z ++ b ∷ []) e ∙ sym (quoted_byte content b quote);
+      whole = text_longer t front text k n b w;
+    })))
+    (λ room. breaks_off t n b _ (text_breaks t front text q k n b content waits c e w (inr (full content c room, quote))))))
 
 on_quote : (t front text : Data) (q : Parser) (k n b : ℕ) (content : List ℕ) → Waits front q → IsContent content → plain text ≡ quoted content ++ 39 ∷ []
     → t ≡ front ++ ((k, 39) ∷ text) → Outcome t n b (step_of (at_quote q content) n b)
 unfolding step_of
 on_quote t front text q k n b content waits c e w =
     cond_both (b == 39) _ _ (Outcome t n b)
-      (λ quote.
-        let is = eqb-true b 39 quote in
-        cond_both (nat_lt (length content) 80) _ _ (Outcome t n b)
-          (λ room. goes_on t n b (in_text q (content ++ b ∷ [])) (live_text (record {
-            state = q;
-            front = front;
-            line = k;
-            text = text ++ (n, b) ∷ [];
-            content = content ++ b ∷ [];
-            is = refl;
-            waits = waits;
-            content_is = content_more content b c room (ap (λ (z : ℕ). z == 10) is);
-            written = plain-append text ((n, b) ∷ []) ∙ ap (λ (z : List ℕ). z ++ b ∷ []) e
-              ∙ ap (λ (z : ℕ). (quoted content ++ 39 ∷ []) ++ z ∷ []) is ∙ sym (quoted_quote content)
-              ∙ ap (λ (z : ℕ). quoted (content ++ z ∷ [])) (sym is);
-            whole = text_longer t front text k n b w
-          })))
-          (λ room. breaks_off t n b _ (quote_breaks t front text q k n b content waits c e w (inl (is, full content c room)))))
-      (λ quote. cond_both (may_follow b) _ _ (Outcome t n b)
-        (λ f. subst (Outcome t n b) (sym (put_same q Quote content (Text content) n b))
-          (put_value t front ((k, 39) ∷ text) q (Text content) n b waits (record { content_is = c; whole = ap (λ (z : List ℕ). 39 ∷ z) e }) f w))
-        (λ f. breaks_off t n b _ (quote_breaks t front text q k n b content waits c e w (inr (quote, f)))))
+    (λ quote.
+    let is = eqb-true b 39 quote in
+    cond_both (nat_lt (length content) 80) _ _ (Outcome t n b)
+    (λ room. goes_on t n b (in_text q (content ++ b ∷ [])) (live_text (record {
+      state = q;
+      front = front;
+      line = k;
+      text = text ++ (n, b) ∷ [];
+      content = content ++ b ∷ [];
+      is = refl;
+      waits = waits;
+      content_is = content_more content b c room (ap (λ (z : ℕ). z == 10) is);
+      written = plain-append text ((n, b) ∷ []) ∙ ap (λ (z : List ℕ). z ++ b ∷ []) e
+          ∙ ap (λ (z : ℕ). (quoted content ++ 39 ∷ []) ++ z ∷ []) is ∙ sym (quoted_quote content)
+          ∙ ap (λ (z : ℕ). quoted (content ++ z ∷ [])) (sym is);
+      whole = text_longer t front text k n b w;
+    })))
+    (λ room. breaks_off t n b _ (quote_breaks t front text q k n b content waits c e w (inl (is, full content c room)))))
+    (λ quote. cond_both (may_follow b) _ _ (Outcome t n b)
+    (λ f. subst (Outcome t n b) (sym (put_same q Quote content (Text content) n b))
+    (put_value t front ((k, 39) ∷ text) q (Text content) n b waits (record { content_is = c; whole = ap (λ (z : List ℕ). 39 ∷ z) e }) f w))
+    (λ f. breaks_off t n b _ (quote_breaks t front text q k n b content waits c e w (inr (quote, f)))))
 
 -- one more byte in any state
 by_state : (t : Data) (p q : Parser) (n b : ℕ) → p ≡ q → Outcome t n b (step_of q n b) → Outcome t n b (step_of p n b)

@@ -1,35 +1,30 @@
 -- One more byte before a value, in it and behind it.
-use Rattle.std.proofs.Common.{inl, inr, ◌⊎◌, ◌≡◌, ℕ, ◌+◌, ◌<◌, ◌≤◌, Bool, true, false, not, ◌&&◌, List, [], ◌∷◌, ◌++◌, length, Option, Some, None, Result, Ok, Err, refl, ap, sym, ◌∙◌, subst, arith, append_assoc}
-use Rattle.std.specs.Prelude.{◌==◌, ◌||◌, nat_lt, if◌then◌else◌}
+use Rattle.std.proofs.Common.{inl, inr, ◌≡◌, ℕ, ◌<◌, true, false, List, [], ◌∷◌, ◌++◌, length, Option, Some, None, Ok, refl, ap, sym, ◌∙◌, subst, arith, append_assoc}
+use Rattle.std.specs.Prelude.{◌==◌}
 use Rattle.std.specs.List.{list_all}
-use Rattle.std.proofs.lemmas.Bool.{and_parts, and_from, cond-true, cond-false, cond_both, cases_Bool, eqb-true, eqb-false, eq-eqb, or_from, or_parts, or_left, or_right, both_ways, ltb-true, ltb-false, not_from_false}
+use Rattle.std.proofs.lemmas.Bool.{and_from, cond_both, eqb-true, eqb-false, or_from, both_ways}
 use Rattle.std.proofs.lemmas.Bool.Decides.{nat_tests}
 use Rattle.std.proofs.lemmas.Grind.{common_steps}
 use Rattle.std.proofs.lemmas.List.{append-nil, length_push}
-use Rattle.std.proofs.lemmas.List.Folds.{list_all-append}
 use Rattle.st_text.specs.Bytes.{is_blank}
-use Rattle.st_decimal.specs.declared.number.Dec.{Dec}
 use Rattle.st_kernel_text.specs.Bytes.{is_space, is_separator, is_run_byte}
-use Rattle.st_kernel_text.specs.Fault.{Fault, fails}
-use Rattle.st_kernel_text.specs.Faults.{Row, behind_sign, in_list, behind_values, Stands, HasFault, HasBadValue, HasBadRun, HasOpenText, HasBadEnd, HasOtherKind, BeginsWithout, is_quote, is_before_value, StandsListed, StandsClosed}
-use Rattle.st_kernel_text.specs.Grammar.{Data, plain, same_kind, AreOfOneKind, SpellsHead, SpellsItems, SpellsAlone, SpellsList, SpellsValues, SpellsAssignment, SpellsAll}
-use Rattle.st_kernel_text.specs.ParserMachine.{fresh, start_of, close_of, put_of, taken_of, closed_of, list_of, push_quoted, step_of}
-use Rattle.st_kernel_text.specs.ValueMachine.{number_of_run, fits}
-use Rattle.st_kernel_text.specs.Values.{Spells, SpellsRun, SpellsText, IsContent, ReadsRun, quoted, cause_of_run, is_no_line_end, may_follow}
+use Rattle.st_kernel_text.specs.Faults.{behind_sign, in_list, behind_values, HasFault, HasBadValue, HasOtherKind, BeginsWithout, is_before_value, StandsListed}
+use Rattle.st_kernel_text.specs.Grammar.{Data, plain, AreOfOneKind, SpellsItems, SpellsValues, SpellsAll}
+use Rattle.st_kernel_text.specs.ParserMachine.{fresh, put_of, closed_of, list_of, step_of}
+use Rattle.st_kernel_text.specs.ValueMachine.{fits}
+use Rattle.st_kernel_text.specs.Values.{Spells, may_follow}
 use Rattle.st_kernel_text.specs.declared.assignment.Assignment.{Assignment}
 use Rattle.st_kernel_text.specs.declared.assignment.Mode.{Mode}
 use Rattle.st_kernel_text.specs.declared.fault.TextCause.{TextCause}
-use Rattle.st_kernel_text.specs.declared.fault.TextCause.TheVariants.{NoValue, BadNumber, BadString, MixedKinds, TrailingText}
+use Rattle.st_kernel_text.specs.declared.fault.TextCause.TheVariants.{BadNumber}
 use Rattle.st_kernel_text.specs.declared.parser.Parser.{Parser}
-use Rattle.st_kernel_text.specs.declared.parser.Stage.TheVariants.{Signed, InList, Run, Quoted, Quote, Closed}
+use Rattle.st_kernel_text.specs.declared.parser.Stage.TheVariants.{Signed, InList}
 use Rattle.st_kernel_text.specs.declared.value.Value.{Value}
-use Rattle.st_kernel_text.specs.declared.value.Value.TheVariants.{Number, Text}
-use Rattle.st_kernel_text.proofs.Grows.{all_more, all_push, append3, items_gap, items_push, kinds_push, quoted_byte, quoted_quote}
-use Rattle.st_kernel_text.proofs.Live.{IsHead, head_stands, IsSigned, IsListed, Waits, waits_signed, waits_listed, IsInRun, IsInText, IsAtQuote, IsClosed, live_between, live_waits, live_run, live_text, live_quote, live_closed, Outcome, goes_on, breaks_off}
-use Rattle.st_kernel_text.proofs.ReadAll.{closed, assigned, ends_more, items_more}
-use Rattle.st_kernel_text.proofs.ReadValues.{opens_value, in_run, in_text, at_quote, put_same}
-use Rattle.st_kernel_text.proofs.Runs.{run_reads, run_none}
-use Rattle.st_kernel_text.proofs.States.{signed, plain-append, run_no_follow, follow_no_stop, run_no_quote, follow_no_quote}
+use Rattle.st_kernel_text.proofs.Grows.{all_more, all_push, append3, items_gap, items_push, kinds_push}
+use Rattle.st_kernel_text.proofs.Live.{IsHead, head_stands, IsSigned, IsListed, Waits, waits_signed, waits_listed, live_between, live_waits, live_run, live_text, live_closed, Outcome, goes_on, breaks_off}
+use Rattle.st_kernel_text.proofs.ReadAll.{closed, assigned, items_more}
+use Rattle.st_kernel_text.proofs.ReadValues.{opens_value, in_run, in_text}
+use Rattle.st_kernel_text.proofs.States.{signed}
 
 -- the first byte of a value is nothing that may stand before it
 opens_before : (b : ℕ) → opens_value b ≡ true → is_before_value b ≡ false
@@ -59,23 +54,23 @@ listed_stands t p h =
 
 signed_breaks : (t rest : Data) (p : Parser) (n : ℕ) (cause : TextCause) → IsSigned t p → BeginsWithout is_before_value rest → HasBadValue rest n cause → HasFault (t ++ rest) n cause
 signed_breaks t rest p n cause h b v = record {
-    row = behind_sign h.line;
-    before = t;
-    rest = rest;
-    stands = head_stands h.done h.name h.mode h.line t h.head;
-    breaks = inr (b, v);
-    whole = refl
-  }
+  row = behind_sign h.line;
+  before = t;
+  rest = rest;
+  stands = head_stands h.done h.name h.mode h.line t h.head;
+  breaks = inr (b, v);
+  whole = refl;
+}
 
 listed_breaks : (t rest : Data) (p : Parser) (n : ℕ) (cause : TextCause) → IsListed t p → BeginsWithout may_follow rest → HasBadValue rest n cause → HasFault (t ++ rest) n cause
 listed_breaks t rest p n cause h b v = record {
-    row = in_list h.opened h.values;
-    before = t;
-    rest = rest;
-    stands = listed_stands t p h;
-    breaks = inr (inr (b, v));
-    whole = refl
-  }
+  row = in_list h.opened h.values;
+  before = t;
+  rest = rest;
+  stands = listed_stands t p h;
+  breaks = inr (inr (b, v));
+  whole = refl;
+}
 
 pub value_breaks : (t rest : Data) (p : Parser) (n : ℕ) (cause : TextCause) → Waits t p → OpensValue rest → HasBadValue rest n cause → HasFault (t ++ rest) n cause
 value_breaks t rest p n cause (waits_signed h) o v = signed_breaks t rest p n cause h (without_before rest o) v
@@ -88,52 +83,52 @@ on_closed : (done : List Assignment) (name : List ℕ) (mode : Mode) (k : ℕ) (
 on_closed done name mode k o vs t front body blanks n b head values bs w =
     let longer : t ++ (n, b) ∷ [] ≡ front ++ (body ++ (blanks ++ (n, b) ∷ [])) = ap (λ (z : Data). z ++ (n, b) ∷ []) w ∙ append3 front body blanks ((n, b) ∷ []) in
     cond_both (b == 10) _ _ (Outcome t n b)
-      (λ end.
-        let is = eqb-true b 10 end in
-        goes_on t n b (fresh (done ++ assigned name mode vs ∷ [])) (live_between (record {
-          done = done ++ assigned name mode vs ∷ [];
-          is = refl;
-          spells = subst (SpellsAll (done ++ assigned name mode vs ∷ []))
-            (sym (append_assoc head.front head.head (body ++ (blanks ++ (n, 10) ∷ [])))
-              ∙ ap (λ (z : Data). z ++ (body ++ (blanks ++ (n, 10) ∷ []))) (sym head.whole)
-              ∙ ap (λ (z : ℕ). front ++ (body ++ (blanks ++ (n, z) ∷ []))) (sym is) ∙ sym longer)
-            (all_push done (assigned name mode vs) head.front (head.head ++ (body ++ (blanks ++ (n, 10) ∷ []))) head.spells (record {
-              sign_line = k;
-              head = head.head;
-              body = body;
-              blanks = blanks;
-              end_line = n;
-              head_is = head.head_is;
-              body_is = subst (λ (z : ℕ). SpellsValues vs body (blanks ++ (n, z) ∷ [])) is (values []);
-              are_blanks = bs;
-              whole = refl
-            }))
-        })))
-      (λ end. cond_both (is_blank b) _ _ (Outcome t n b)
-        (λ blank. goes_on t n b (closed done name mode k o vs) (live_closed (record {
-          done = done;
-          name = name;
-          mode = mode;
-          line = k;
-          opened = o;
-          values = vs;
-          front = front;
-          body = body;
-          blanks = blanks ++ (n, b) ∷ [];
-          is = refl;
-          head = head;
-          body_is = λ rest. subst (SpellsValues vs body) (sym (append_assoc blanks ((n, b) ∷ []) rest)) (values rest);
-          are_blanks = all_more is_blank blanks n b bs blank;
-          whole = longer
-        })))
-        (λ blank. breaks_off t n b _ (λ rest. record {
-          row = behind_values;
-          before = t;
-          rest = (n, b) ∷ rest;
-          stands = record { sign_line = k; values = vs; front = front; body = body; blanks = blanks; signed = head_stands done name mode k front head; body_is = values rest; are_blanks = bs; whole = w };
-          breaks = (refl, or_from _ _ blank end, (b, record { more = rest; whole = refl }));
-          whole = refl
-        })))
+    (λ end.
+    let is = eqb-true b 10 end in
+    goes_on t n b (fresh (done ++ assigned name mode vs ∷ [])) (live_between (record {
+      done = done ++ assigned name mode vs ∷ [];
+      is = refl;
+      spells = subst (SpellsAll (done ++ assigned name mode vs ∷ []))
+          (sym (append_assoc head.front head.head (body ++ (blanks ++ (n, 10) ∷ [])))
+          ∙ ap (λ (z : Data). z ++ (body ++ (blanks ++ (n, 10) ∷ []))) (sym head.whole)
+          ∙ ap (λ (z : ℕ). front ++ (body ++ (blanks ++ (n, z) ∷ []))) (sym is) ∙ sym longer)
+          (all_push done (assigned name mode vs) head.front (head.head ++ (body ++ (blanks ++ (n, 10) ∷ []))) head.spells (record {
+            sign_line = k;
+            head = head.head;
+            body = body;
+            blanks = blanks;
+            end_line = n;
+            head_is = head.head_is;
+            body_is = subst (λ (z : ℕ). SpellsValues vs body (blanks ++ (n, z) ∷ [])) is (values []);
+            are_blanks = bs;
+            whole = refl;
+          }));
+    })))
+    (λ end. cond_both (is_blank b) _ _ (Outcome t n b)
+    (λ blank. goes_on t n b (closed done name mode k o vs) (live_closed (record {
+      done = done;
+      name = name;
+      mode = mode;
+      line = k;
+      opened = o;
+      values = vs;
+      front = front;
+      body = body;
+      blanks = blanks ++ (n, b) ∷ [];
+      is = refl;
+      head = head;
+      body_is = λ rest. subst (SpellsValues vs body) (sym (append_assoc blanks ((n, b) ∷ []) rest)) (values rest);
+      are_blanks = all_more is_blank blanks n b bs blank;
+      whole = longer;
+    })))
+    (λ blank. breaks_off t n b _ (λ rest. record {
+      row = behind_values;
+      before = t;
+      rest = (n, b) ∷ rest;
+      stands = record { sign_line = k; values = vs; front = front; body = body; blanks = blanks; signed = head_stands done name mode k front head; body_is = values rest; are_blanks = bs; whole = w };
+      breaks = (refl, or_from _ _ blank end, (b, record { more = rest; whole = refl }));
+      whole = refl;
+    })))
 
 pub on_behind : (done : List Assignment) (name : List ℕ) (mode : Mode) (k : ℕ) (o : Option ℕ) (vs : List Value) (t front body blanks : Data) (n b : ℕ)
     → IsHead done name mode k front → ((rest : Data) → SpellsValues vs body (blanks ++ ((n, b) ∷ rest))) → list_all is_blank (plain blanks) ≡ true
@@ -144,33 +139,35 @@ on_behind done name mode k o vs t front body blanks n b head values bs w = on_cl
 -- the first byte of a value
 open_quote : (t : Data) (p : Parser) (n b : ℕ) → Waits t (record p { run = [] }) → (b == 39) ≡ true → Outcome t n b (Ok (in_text p []))
 open_quote t p n b waits e = goes_on t n b (in_text p []) (live_text (record {
-    state = record p { run = [] };
-    front = t;
-    line = n;
-    text = [];
-    content = [];
-    is = refl;
-    waits = waits;
-    content_is = record { most = omega arith; one_line = refl };
-    written = refl;
-    whole = ap (λ (z : ℕ). t ++ (n, z) ∷ []) (eqb-true b 39 e)
-  }))
+  state = record p { run = [] };
+  front = t;
+  line = n;
+  text = [];
+  content = [];
+  is = refl;
+  waits = waits;
+  content_is = record { most = omega arith; one_line = refl };
+  written = refl;
+  whole = ap (λ (z : ℕ). t ++ (n, z) ∷ []) (eqb-true b 39 e);
+}))
 
 open_run : (t : Data) (p : Parser) (n b : ℕ) → Waits t (record p { run = [] }) → is_run_byte b ≡ true → Outcome t n b (Ok (in_run p (b ∷ [])))
 open_run t p n b waits e = goes_on t n b (in_run p (b ∷ [])) (live_run (record {
-    state = record p { run = [] };
-    front = t;
-    word = (n, b) ∷ [];
-    is = refl;
-    waits = waits;
-    some = omega arith;
-    bytes = and_from _ _ e refl;
-    whole = refl
-  }))
+  state = record p { run = [] };
+  front = t;
+  word = (n, b) ∷ [];
+  is = refl;
+  waits = waits;
+  some = omega arith;
+  bytes = and_from _ _ e refl;
+  whole = refl;
+}))
 
 -- an empty run
 empty_run : (n b : ℕ) (rest : Data) → (b == 39) ≡ false → is_run_byte b ≡ false → HasBadValue ((n, b) ∷ rest) n BadNumber
-empty_run n b rest q r = inl (q, record {
+empty_run n b rest q r = inl (
+  q,
+  record {
     word = [];
     byte = b;
     more = rest;
@@ -178,8 +175,9 @@ empty_run n b rest q r = inl (q, record {
     longest = r;
     none = λ f d h. h;
     cause_is = refl;
-    whole = refl
-  })
+    whole = refl;
+  },
+)
 
 pub on_signed : (done : List Assignment) (name : List ℕ) (mode : Mode) (k : ℕ) (t : Data) (n b : ℕ) → IsHead done name mode k t
     → Outcome t n b (step_of (signed Signed done name mode k None [] []) n b)
@@ -188,64 +186,64 @@ on_signed done name mode k t n b head =
     let p : Parser = signed Signed done name mode k None [] [] in
     let here : IsSigned t p = record { done = done; name = name; mode = mode; line = k; is = refl; head = head } in
     cond_both (is_space b) _ _ (Outcome t n b)
-      (λ space. goes_on t n b p (live_waits (waits_signed (record {
-        done = done;
-        name = name;
-        mode = mode;
-        line = k;
-        is = refl;
-        head = record {
-          front = head.front;
-          head = head.head ++ (n, b) ∷ [];
-          spells = head.spells;
-          head_is = record {
-            word = head.head_is.word;
-            blanks = head.head_is.blanks;
-            sign = head.head_is.sign;
-            spaces = head.head_is.spaces ++ (n, b) ∷ [];
-            name_is = head.head_is.name_is;
-            is = head.head_is.is;
-            are_blanks = head.head_is.are_blanks;
-            sign_is = head.head_is.sign_is;
-            are_spaces = all_more is_space head.head_is.spaces n b head.head_is.are_spaces space;
-            whole = ap (λ (z : Data). z ++ (n, b) ∷ []) head.head_is.whole
+    (λ space. goes_on t n b p (live_waits (waits_signed (record {
+      done = done;
+      name = name;
+      mode = mode;
+      line = k;
+      is = refl;
+      head = record {
+        front = head.front;
+        head = head.head ++ (n, b) ∷ [];
+        spells = head.spells;
+        head_is = record {
+          word = head.head_is.word;
+          blanks = head.head_is.blanks;
+          sign = head.head_is.sign;
+          spaces = head.head_is.spaces ++ (n, b) ∷ [];
+          name_is = head.head_is.name_is;
+          is = head.head_is.is;
+          are_blanks = head.head_is.are_blanks;
+          sign_is = head.head_is.sign_is;
+          are_spaces = all_more is_space head.head_is.spaces n b head.head_is.are_spaces space;
+          whole = ap (λ (z : Data). z ++ (n, b) ∷ []) head.head_is.whole
               ∙ append3 head.head_is.word head.head_is.blanks (head.head_is.sign ++ head.head_is.spaces) ((n, b) ∷ [])
-              ∙ ap (λ (z : Data). head.head_is.word ++ (head.head_is.blanks ++ z)) (append_assoc head.head_is.sign head.head_is.spaces ((n, b) ∷ []))
-          };
-          whole = ap (λ (z : Data). z ++ (n, b) ∷ []) head.whole ∙ append_assoc head.front head.head ((n, b) ∷ [])
-        }
-      }))))
-      (λ space. cond_both (b == 40) _ _ (Outcome t n b)
-        (λ paren. goes_on t n b (signed InList done name mode k (Some n) [] []) (live_waits (waits_listed (record {
-          done = done;
-          name = name;
-          mode = mode;
-          line = k;
-          opened = n;
-          values = [];
-          front = t;
-          items = [];
-          is = refl;
-          head = head;
-          kind = tt;
-          spells = refl;
-          whole = ap (λ (z : ℕ). t ++ (n, z) ∷ []) (eqb-true b 40 paren)
-        }))))
-        (λ paren. cond_both (b == 39) _ _ (Outcome t n b)
-          (λ quote. open_quote t p n b (waits_signed here) quote)
-          (λ quote. cond_both (is_run_byte b) _ _ (Outcome t n b)
-            (λ byte. open_run t p n b (waits_signed here) byte)
-            (λ byte. cond_both (b == 41) _ _ (Outcome t n b)
-              (λ close. breaks_off t n b _ (λ rest. record {
-                row = behind_sign k;
-                before = t;
-                rest = (n, b) ∷ rest;
-                stands = head_stands done name mode k t head;
-                breaks = inl (refl, record { more = rest; whole = ap (λ (z : ℕ). (n, z) ∷ rest) (eqb-true b 41 close) });
-                whole = refl
-              }))
-              (λ close. breaks_off t n b _ (λ rest. signed_breaks t ((n, b) ∷ rest) p n BadNumber here
-                (or_from _ _ (or_from _ _ space paren) close) (empty_run n b rest quote byte)))))))
+              ∙ ap (λ (z : Data). head.head_is.word ++ (head.head_is.blanks ++ z)) (append_assoc head.head_is.sign head.head_is.spaces ((n, b) ∷ []));
+        };
+        whole = ap (λ (z : Data). z ++ (n, b) ∷ []) head.whole ∙ append_assoc head.front head.head ((n, b) ∷ []);
+      };
+    }))))
+    (λ space. cond_both (b == 40) _ _ (Outcome t n b)
+    (λ paren. goes_on t n b (signed InList done name mode k (Some n) [] []) (live_waits (waits_listed (record {
+      done = done;
+      name = name;
+      mode = mode;
+      line = k;
+      opened = n;
+      values = [];
+      front = t;
+      items = [];
+      is = refl;
+      head = head;
+      kind = tt;
+      spells = refl;
+      whole = ap (λ (z : ℕ). t ++ (n, z) ∷ []) (eqb-true b 40 paren);
+    }))))
+    (λ paren. cond_both (b == 39) _ _ (Outcome t n b)
+    (λ quote. open_quote t p n b (waits_signed here) quote)
+    (λ quote. cond_both (is_run_byte b) _ _ (Outcome t n b)
+    (λ byte. open_run t p n b (waits_signed here) byte)
+    (λ byte. cond_both (b == 41) _ _ (Outcome t n b)
+    (λ close. breaks_off t n b _ (λ rest. record {
+      row = behind_sign k;
+      before = t;
+      rest = (n, b) ∷ rest;
+      stands = head_stands done name mode k t head;
+      breaks = inl (refl, record { more = rest; whole = ap (λ (z : ℕ). (n, z) ∷ rest) (eqb-true b 41 close) });
+      whole = refl;
+    }))
+    (λ close. breaks_off t n b _ (λ rest. signed_breaks t ((n, b) ∷ rest) p n BadNumber here
+    (or_from _ _ (or_from _ _ space paren) close) (empty_run n b rest quote byte)))))))
 
 -- the list with these values is at its end
 list_ends : (done : List Assignment) (name : List ℕ) (mode : Mode) (k l : ℕ) (vs : List Value) (t front items : Data) (n b : ℕ)
@@ -272,11 +270,11 @@ list_ends done name mode k l vs t front items n b head kind spells w close some 
         some = some;
         kind = kind;
         spells = subst (λ (z : ℕ). SpellsItems vs items ((n, z) ∷ [])) is spells;
-        whole = refl
+        whole = refl;
       });
       are_blanks = refl;
       whole = ap (λ (z : Data). z ++ (n, b) ∷ []) w ∙ append_assoc front ((l, 40) ∷ items) ((n, b) ∷ [])
-        ∙ ap (λ (z : ℕ). front ++ ((l, 40) ∷ (items ++ (n, z) ∷ []))) is ∙ ap (λ (z : Data). front ++ z) (sym (append-nil _))
+          ∙ ap (λ (z : ℕ). front ++ ((l, 40) ∷ (items ++ (n, z) ∷ []))) is ∙ ap (λ (z : Data). front ++ z) (sym (append-nil _));
     }))
 
 list_goes : (done : List Assignment) (name : List ℕ) (mode : Mode) (k l : ℕ) (vs : List Value) (t front items : Data) (n b : ℕ)
@@ -296,7 +294,7 @@ list_goes done name mode k l vs t front items n b head kind spells w sep =
       head = head;
       kind = kind;
       spells = items_gap vs items n b spells sep;
-      whole = ap (λ (z : Data). z ++ (n, b) ∷ []) w ∙ append_assoc front ((l, 40) ∷ items) ((n, b) ∷ [])
+      whole = ap (λ (z : Data). z ++ (n, b) ∷ []) w ∙ append_assoc front ((l, 40) ∷ items) ((n, b) ∷ []);
     })))
 
 no_values : (vs : List Value) → (length vs == 0) ≡ true → vs ≡ []
@@ -314,26 +312,26 @@ on_list_open done name mode k l vs t front items n b head kind spells w =
     let here : IsListed t p = record { done = done; name = name; mode = mode; line = k; opened = l; values = vs; front = front; items = items; is = refl; head = head; kind = kind; spells = spells; whole = w } in
     let before = items_more vs items [] ((n, b) ∷ []) spells in
     cond_both (is_separator b) _ _ (Outcome t n b)
-      (λ sep. list_goes done name mode k l vs t front items n b head kind before w sep)
-      (λ sep. cond_both (b == 41) _ _ (Outcome t n b)
-        (λ close. cond_both (length vs == 0) _ _ (Outcome t n b)
-          (λ none. breaks_off t n b _ (λ rest. record {
-            row = in_list l vs;
-            before = t;
-            rest = (n, b) ∷ rest;
-            stands = listed_stands t p here;
-            breaks = inl (refl, no_values vs none, record { more = rest; whole = ap (λ (z : ℕ). (n, z) ∷ rest) (eqb-true b 41 close) });
-            whole = refl
-          }))
-          (λ some. list_ends done name mode k l vs t front items n b head kind before w close (some_values vs some)))
-        (λ close. cond_both (b == 39) _ _ (Outcome t n b)
-          (λ quote. open_quote t p n b (waits_listed here) quote)
-          (λ quote. cond_both (is_run_byte b) _ _ (Outcome t n b)
-            (λ byte. open_run t p n b (waits_listed here) byte)
-            (λ byte. cond_both (b == 41) _ _ (Outcome t n b)
-              (λ again. absurd (both_ways (b == 41) close again))
-              (λ again. breaks_off t n b _ (λ rest. listed_breaks t ((n, b) ∷ rest) p n BadNumber here
-                (or_from _ _ sep close) (empty_run n b rest quote byte)))))))
+    (λ sep. list_goes done name mode k l vs t front items n b head kind before w sep)
+    (λ sep. cond_both (b == 41) _ _ (Outcome t n b)
+    (λ close. cond_both (length vs == 0) _ _ (Outcome t n b)
+    (λ none. breaks_off t n b _ (λ rest. record {
+      row = in_list l vs;
+      before = t;
+      rest = (n, b) ∷ rest;
+      stands = listed_stands t p here;
+      breaks = inl (refl, no_values vs none, record { more = rest; whole = ap (λ (z : ℕ). (n, z) ∷ rest) (eqb-true b 41 close) });
+      whole = refl;
+    }))
+    (λ some. list_ends done name mode k l vs t front items n b head kind before w close (some_values vs some)))
+    (λ close. cond_both (b == 39) _ _ (Outcome t n b)
+    (λ quote. open_quote t p n b (waits_listed here) quote)
+    (λ quote. cond_both (is_run_byte b) _ _ (Outcome t n b)
+    (λ byte. open_run t p n b (waits_listed here) byte)
+    (λ byte. cond_both (b == 41) _ _ (Outcome t n b)
+    (λ again. absurd (both_ways (b == 41) close again))
+    (λ again. breaks_off t n b _ (λ rest. listed_breaks t ((n, b) ∷ rest) p n BadNumber here
+    (or_from _ _ sep close) (empty_run n b rest quote byte)))))))
 
 pub on_list : (done : List Assignment) (name : List ℕ) (mode : Mode) (k l : ℕ) (vs : List Value) (t front items : Data) (n b : ℕ)
     → IsHead done name mode k front → AreOfOneKind vs → SpellsItems vs items [] → t ≡ front ++ ((l, 40) ∷ items)
@@ -353,14 +351,14 @@ on_listed_value : (done : List Assignment) (name : List ℕ) (mode : Mode) (k l 
     → Outcome t n b (list_of (signed InList done name mode k (Some l) (vs ++ v ∷ []) []) n b)
 on_listed_value done name mode k l vs v t front items n b head kind spells w f =
     cond_both (is_separator b) _ _ (Outcome t n b)
-      (λ sep. list_goes done name mode k l (vs ++ v ∷ []) t front items n b head kind spells w sep)
-      (λ sep.
-        let close = follows_list b f sep in
-        cond_both (b == 41) _ _ (Outcome t n b)
-          (λ c. cond_both (length (vs ++ v ∷ []) == 0) _ _ (Outcome t n b)
-            (λ none. absurd (omega (arith, eqb-true (length (vs ++ v ∷ [])) 0 none, length_some vs v)))
-            (λ some. list_ends done name mode k l (vs ++ v ∷ []) t front items n b head kind spells w c (length_some vs v)))
-          (λ c. absurd (both_ways (b == 41) c close)))
+    (λ sep. list_goes done name mode k l (vs ++ v ∷ []) t front items n b head kind spells w sep)
+    (λ sep.
+    let close = follows_list b f sep in
+    cond_both (b == 41) _ _ (Outcome t n b)
+    (λ c. cond_both (length (vs ++ v ∷ []) == 0) _ _ (Outcome t n b)
+    (λ none. absurd (omega (arith, eqb-true (length (vs ++ v ∷ [])) 0 none, length_some vs v)))
+    (λ some. list_ends done name mode k l (vs ++ v ∷ []) t front items n b head kind spells w c (length_some vs v)))
+    (λ c. absurd (both_ways (b == 41) c close)))
 
 mixed : (vs : List Value) (v : Value) (t : Data) (n b : ℕ) (rest : Data) → fits vs v ≡ false → Spells v (plain t) → may_follow b ≡ true → HasOtherKind vs (t ++ ((n, b) ∷ rest)) n
 mixed [] v t n b rest h s f = absurd (cc)
@@ -372,24 +370,24 @@ put_listed : (t front text : Data) (q : Parser) (v : Value) (n b : ℕ) → (h :
 unfolding put_of
 put_listed t front text q v n b h s f w =
     cond_both (fits h.values v) _ _ (Outcome t n b)
-      (λ fit. on_listed_value h.done h.name h.mode h.line h.opened h.values v t h.front (h.items ++ text) n b h.head
-        (kinds_push h.values v h.kind fit) (items_push h.values v h.items text n b h.spells s f)
-        (w ∙ ap (λ (z : Data). z ++ text) h.whole ∙ append_assoc h.front ((h.opened, 40) ∷ h.items) text) f)
-      (λ fit. breaks_off t n b _ (λ rest. record {
-        row = in_list h.opened h.values;
-        before = front;
-        rest = text ++ ((n, b) ∷ rest);
-        stands = listed_stands front q h;
-        breaks = inr (inl (refl, mixed h.values v text n b rest fit s f));
-        whole = ap (λ (z : Data). z ++ ((n, b) ∷ rest)) w ∙ append_assoc front text ((n, b) ∷ rest)
-      }))
+    (λ fit. on_listed_value h.done h.name h.mode h.line h.opened h.values v t h.front (h.items ++ text) n b h.head
+    (kinds_push h.values v h.kind fit) (items_push h.values v h.items text n b h.spells s f)
+    (w ∙ ap (λ (z : Data). z ++ text) h.whole ∙ append_assoc h.front ((h.opened, 40) ∷ h.items) text) f)
+    (λ fit. breaks_off t n b _ (λ rest. record {
+      row = in_list h.opened h.values;
+      before = front;
+      rest = text ++ ((n, b) ∷ rest);
+      stands = listed_stands front q h;
+      breaks = inr (inl (refl, mixed h.values v text n b rest fit s f));
+      whole = ap (λ (z : Data). z ++ ((n, b) ∷ rest)) w ∙ append_assoc front text ((n, b) ∷ rest);
+    }))
 
 put_signed : (t front text : Data) (q : Parser) (v : Value) (n b : ℕ) → (h : IsSigned front q) → Spells v (plain text) → may_follow b ≡ true → t ≡ front ++ text
     → Outcome t n b (put_of (signed Signed h.done h.name h.mode h.line None [] []) v n b)
 unfolding put_of
 put_signed t front text q v n b h s f w =
     on_closed h.done h.name h.mode h.line None (v ∷ []) t front text [] n b h.head
-      (λ rest. inl (record { value = v; one = refl; spells = s; ends = f })) refl (w ∙ ap (λ (z : Data). front ++ z) (sym (append-nil text)))
+    (λ rest. inl (record { value = v; one = refl; spells = s; ends = f })) refl (w ∙ ap (λ (z : Data). front ++ z) (sym (append-nil text)))
 
 pub put_value : (t front text : Data) (q : Parser) (v : Value) (n b : ℕ) → Waits front q → Spells v (plain text) → may_follow b ≡ true → t ≡ front ++ text
     → Outcome t n b (put_of q v n b)

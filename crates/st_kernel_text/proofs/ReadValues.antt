@@ -1,8 +1,8 @@
 -- A value is read as it is spelled, up to the byte behind it.
-use Rattle.std.proofs.Common.{inl, inr, ◌⊎◌, ◌≡◌, ℕ, ◌+◌, ◌<◌, ◌≤◌, suc, Bool, true, false, not, ◌&&◌, List, [], ◌∷◌, ◌++◌, length, Option, Some, None, Result, Ok, Err, refl, ap, sym, ◌∙◌, subst, arith, append_assoc}
-use Rattle.std.specs.Prelude.{◌==◌, ◌||◌, nat_lt, if◌then◌else◌, cond}
+use Rattle.std.proofs.Common.{inl, inr, ◌≡◌, ℕ, ◌+◌, ◌<◌, ◌≤◌, Bool, true, false, List, [], ◌∷◌, ◌++◌, length, Option, Some, None, Result, Ok, refl, ap, sym, ◌∙◌, arith, append_assoc}
+use Rattle.std.specs.Prelude.{◌==◌, ◌||◌, cond}
 use Rattle.std.specs.List.{list_all}
-use Rattle.std.proofs.lemmas.Bool.{and_parts, and_from, cond-true, cond-false, lt-ltb, eqb-true, eqb-false, ne_eqb, cases_Bool, not-true, or_left, or_right, or_cases}
+use Rattle.std.proofs.lemmas.Bool.{and_parts, cond-true, cond-false, lt-ltb, eqb-true, cases_Bool, not-true, or_left, or_right}
 use Rattle.std.proofs.lemmas.Bool.Decides.{nat_tests}
 use Rattle.std.proofs.lemmas.Grind.{common_steps}
 use Rattle.std.proofs.lemmas.List.{append-nil, length_push}
@@ -10,7 +10,7 @@ use Rattle.st_decimal.specs.declared.number.Dec.{Dec}
 use Rattle.st_kernel_text.specs.Bytes.{is_space, is_separator, is_run_byte}
 use Rattle.st_kernel_text.specs.Fault.{Fault, fails}
 use Rattle.st_kernel_text.specs.Grammar.{Data, plain}
-use Rattle.st_kernel_text.specs.ParserMachine.{◌>>=◌, start_of, push_run, taken_of, put_of, after_in, after_of, step_of, steps_of}
+use Rattle.st_kernel_text.specs.ParserMachine.{◌>>=◌, start_of, taken_of, put_of, after_in, step_of, steps_of}
 use Rattle.st_kernel_text.specs.ValueMachine.{number_of_run, fits}
 use Rattle.st_kernel_text.specs.Values.{Spells, SpellsRun, SpellsText, IsContent, ReadsRun, quoted, is_no_line_end, may_follow}
 use Rattle.st_kernel_text.specs.declared.fault.TextCause.TheVariants.{MixedKinds}
@@ -18,11 +18,11 @@ use Rattle.st_kernel_text.specs.declared.assignment.Assignment.{Assignment}
 use Rattle.st_kernel_text.specs.declared.assignment.Mode.{Mode}
 use Rattle.st_kernel_text.specs.declared.parser.Parser.{Parser}
 use Rattle.st_kernel_text.specs.declared.parser.Stage.{Stage}
-use Rattle.st_kernel_text.specs.declared.parser.Stage.TheVariants.{Signed, InList, Run, Quoted, Quote, Closed}
+use Rattle.st_kernel_text.specs.declared.parser.Stage.TheVariants.{Signed, InList, Run, Quoted, Quote}
 use Rattle.st_kernel_text.specs.declared.value.Value.{Value}
 use Rattle.st_kernel_text.specs.declared.value.Value.TheVariants.{Number, Text}
 use Rattle.st_kernel_text.proofs.Runs.{run_only}
-use Rattle.st_kernel_text.proofs.States.{signed, one_step, steps-append, run_no_follow, follow_no_stop, run_no_quote, follow_no_quote}
+use Rattle.st_kernel_text.proofs.States.{signed, one_step, run_no_follow, follow_no_stop, run_no_quote, follow_no_quote}
 
 -- a first byte and what is behind it
 pub record Cut (t : Data) (b : ℕ) (u : List ℕ) : Type 0 where
@@ -59,7 +59,7 @@ split t (x ∷ a) b h =
       right = s.right;
       whole = c.whole ∙ ap (λ (z : Data). (c.line, x) ∷ z) s.whole;
       left_is = ap (λ (z : List ℕ). x ∷ z) s.left_is;
-      right_is = s.right_is
+      right_is = s.right_is;
     }
 
 -- the first byte of a value is one of a run, or a quote
@@ -113,7 +113,7 @@ pub put_same : (p : Parser) (s : Stage) (w : List ℕ) (v : Value) (n b : ℕ) �
 unfolding put_of
 put_same p s w v n b =
     ap (λ (r : Result Parser Fault). cond (fits p.values v) r (fails n MixedKinds))
-      (after_same p.opened (record p { values = p.values ++ v ∷ []; run = [] }) s p.stage n b)
+    (after_same p.opened (record p { values = p.values ++ v ∷ []; run = [] }) s p.stage n b)
 
 pub run_opens : (p : Parser) (n b : ℕ) → Starts p → is_run_byte b ≡ true → step_of (record p { run = [] }) n b ≡ Ok (in_run p (b ∷ []))
 run_opens p n b s h = s n b (or_left _ _ h) ∙ cond-false _ _ _ (run_no_quote b h) ∙ cond-true _ _ _ h
@@ -131,8 +131,8 @@ run_more p w [] rest h = ap (λ (z : List ℕ). steps_of (in_run p z) rest) (sym
 run_more p w (b ∷ word) rest h =
     let both = and_parts (is_run_byte b.1) (list_all is_run_byte (plain word)) h in
     one_step _ _ b.0 b.1 (word ++ rest) (run_step p w b.0 b.1 both.0)
-      ∙ run_more p (w ++ b.1 ∷ []) word rest both.1
-      ∙ ap (λ (z : List ℕ). steps_of (in_run p z) rest) (append_assoc w (b.1 ∷ []) (plain word))
+    ∙ run_more p (w ++ b.1 ∷ []) word rest both.1
+    ∙ ap (λ (z : List ℕ). steps_of (in_run p z) rest) (append_assoc w (b.1 ∷ []) (plain word))
 
 pub run_read : (p : Parser) (word rest : Data) → Starts p → 0 < length (plain word) → list_all is_run_byte (plain word) ≡ true
     → steps_of (record p { run = [] }) (word ++ rest) ≡ steps_of (in_run p (plain word)) rest
@@ -155,10 +155,10 @@ number_read : (p : Parser) (d : Dec) (text rest : Data) (n b : ℕ) → Starts p
     → steps_of (record p { run = [] }) (text ++ ((n, b) ∷ rest)) ≡ (put_of p (Number d) n b >>= λ z. steps_of z rest)
 number_read p d text rest n b s h f =
     run_read p text ((n, b) ∷ rest) s (some_bytes (plain text) d h.reads) h.bytes
-      ∙ ap (λ (r : Result Parser Fault). r >>= λ z. steps_of z rest)
-          (run_end p (plain text) n b (run_no_follow b f) (follow_no_stop b f)
-            ∙ ap (λ (o : Option Dec). taken_of o (in_run p (plain text)) n b) (run_only (plain text) d h.reads)
-            ∙ put_same p Run (plain text) (Number d) n b)
+    ∙ ap (λ (r : Result Parser Fault). r >>= λ z. steps_of z rest)
+    (run_end p (plain text) n b (run_no_follow b f) (follow_no_stop b f)
+    ∙ ap (λ (o : Option Dec). taken_of o (in_run p (plain text)) n b) (run_only (plain text) d h.reads)
+    ∙ put_same p Run (plain text) (Number d) n b)
 
 -- strings
 pub quote_step : (p : Parser) (w : List ℕ) (n : ℕ) → step_of (in_text p w) n 39 ≡ Ok (at_quote p w)
@@ -186,19 +186,19 @@ content_read p w (b ∷ content) t rest e o s =
     let both = and_parts (is_no_line_end b) (list_all is_no_line_end content) o in
     let size : length (w ++ b ∷ []) + length content ≤ 80 = omega (arith, length_push w b) in
     elim (cases_Bool (b == 39)) [
-      inl y ↦
-        let is : b ≡ 39 = eqb-true _ _ y in
-        let one = cut t 39 (39 ∷ quoted content) (e ∙ cond-true _ _ _ y) in
-        let two = cut one.more 39 (quoted content) one.more_is in
-        let again : steps_of (in_text p (w ++ 39 ∷ [])) (two.more ++ rest) ≡ steps_of (in_text p ((w ++ b ∷ []) ++ content)) rest =
+      | inl y ↦
+          let is : b ≡ 39 = eqb-true _ _ y in
+          let one = cut t 39 (39 ∷ quoted content) (e ∙ cond-true _ _ _ y) in
+          let two = cut one.more 39 (quoted content) one.more_is in
+          let again : steps_of (in_text p (w ++ 39 ∷ [])) (two.more ++ rest) ≡ steps_of (in_text p ((w ++ b ∷ []) ++ content)) rest =
           ap (λ (z : ℕ). steps_of (in_text p (w ++ z ∷ [])) (two.more ++ rest)) (sym is) ∙ content_read p (w ++ b ∷ []) content two.more rest two.more_is both.1 size in
-        ap (λ (z : Data). steps_of (in_text p w) (z ++ rest)) (one.whole ∙ ap (λ (z : Data). (one.line, 39) ∷ z) two.whole)
+          ap (λ (z : Data). steps_of (in_text p w) (z ++ rest)) (one.whole ∙ ap (λ (z : Data). (one.line, 39) ∷ z) two.whole)
           ∙ one_step _ _ one.line 39 ((two.line, 39) ∷ (two.more ++ rest)) (quote_step p w one.line)
           ∙ one_step _ _ two.line 39 (two.more ++ rest) (doubled_step p w two.line (omega arith))
           ∙ again ∙ moved p w b content rest
-    | inr n ↦
-        let one = cut t b (quoted content) (e ∙ cond-false _ _ _ n) in
-        ap (λ (z : Data). steps_of (in_text p w) (z ++ rest)) one.whole
+      | inr n ↦
+          let one = cut t b (quoted content) (e ∙ cond-false _ _ _ n) in
+          ap (λ (z : Data). steps_of (in_text p w) (z ++ rest)) one.whole
           ∙ one_step _ _ one.line b (one.more ++ rest) (byte_step p w one.line b (omega arith) n (not-true _ both.0))
           ∙ content_read p (w ++ b ∷ []) content one.more rest one.more_is both.1 size
           ∙ moved p w b content rest
@@ -220,18 +220,18 @@ closed_read p content text rest s c e n =
     let parts = split text (quoted content) (39 ∷ []) e in
     let last = cut parts.right 39 [] parts.right_is in
     ap (λ (z : Data). steps_of (record p { run = [] }) ((n, 39) ∷ (z ++ rest)))
-        (parts.whole ∙ ap (λ (z : Data). parts.left ++ z) (last.whole ∙ ap (λ (z : Data). (last.line, 39) ∷ z) (no_bytes last.more last.more_is)))
-      ∙ ap (λ (z : Data). steps_of (record p { run = [] }) ((n, 39) ∷ z)) (append_assoc parts.left ((last.line, 39) ∷ []) rest)
-      ∙ quoted_read p content parts.left ((last.line, 39) ∷ rest) s c parts.left_is n
-      ∙ one_step _ _ last.line 39 rest (quote_step p content last.line)
+    (parts.whole ∙ ap (λ (z : Data). parts.left ++ z) (last.whole ∙ ap (λ (z : Data). (last.line, 39) ∷ z) (no_bytes last.more last.more_is)))
+    ∙ ap (λ (z : Data). steps_of (record p { run = [] }) ((n, 39) ∷ z)) (append_assoc parts.left ((last.line, 39) ∷ []) rest)
+    ∙ quoted_read p content parts.left ((last.line, 39) ∷ rest) s c parts.left_is n
+    ∙ one_step _ _ last.line 39 rest (quote_step p content last.line)
 
 text_read : (p : Parser) (content : List ℕ) (text rest : Data) (n b : ℕ) → Starts p → SpellsText content (plain text) → may_follow b ≡ true
     → steps_of (record p { run = [] }) (text ++ ((n, b) ∷ rest)) ≡ (put_of p (Text content) n b >>= λ z. steps_of z rest)
 text_read p content text rest n b s h f =
     let first = cut text 39 (quoted content ++ 39 ∷ []) h.whole in
     ap (λ (z : Data). steps_of (record p { run = [] }) (z ++ ((n, b) ∷ rest))) first.whole
-      ∙ closed_read p content first.more ((n, b) ∷ rest) s h.content_is first.more_is first.line
-      ∙ ap (λ (r : Result Parser Fault). r >>= λ z. steps_of z rest) (closing_step p content n b f ∙ put_same p Quote content (Text content) n b)
+    ∙ closed_read p content first.more ((n, b) ∷ rest) s h.content_is first.more_is first.line
+    ∙ ap (λ (r : Result Parser Fault). r >>= λ z. steps_of z rest) (closing_step p content n b f ∙ put_same p Quote content (Text content) n b)
 
 pub value_read : (p : Parser) (v : Value) (text rest : Data) (n b : ℕ) → Starts p → Spells v (plain text) → may_follow b ≡ true
     → steps_of (record p { run = [] }) (text ++ ((n, b) ∷ rest)) ≡ (put_of p v n b >>= λ z. steps_of z rest)

@@ -1,16 +1,15 @@
 -- Where a token stands the reader is in the state of that row.
-use Rattle.std.proofs.Common.{inl, inr, ◌⊎◌, ◌≡◌, ℕ, ◌+◌, ◌<◌, ◌≤◌, Bool, true, false, List, [], ◌∷◌, ◌++◌, length, Option, Some, None, Result, Ok, Err, refl, ap, sym, ◌∙◌, subst, arith, append_assoc}
+use Rattle.std.proofs.Common.{◌≡◌, ℕ, true, List, [], ◌∷◌, ◌++◌, Option, Some, None, Ok, refl, ap, sym, ◌∙◌, subst, append_assoc}
 use Rattle.std.specs.List.{list_all}
 use Rattle.std.proofs.lemmas.List.{append-nil}
 use Rattle.st_text.specs.Bytes.{is_blank}
 use Rattle.st_kernel_text.specs.Faults.{Row, between, behind_name, behind_sign, in_list, behind_values, Stands, StandsBetween, StandsNamed, StandsSigned, StandsListed, StandsClosed}
-use Rattle.st_kernel_text.specs.Grammar.{Data, plain, SpellsItems, SpellsValues}
+use Rattle.st_kernel_text.specs.Grammar.{Data, plain}
 use Rattle.st_kernel_text.specs.ParserMachine.{fresh, steps_of}
 use Rattle.st_kernel_text.specs.declared.assignment.Assignment.{Assignment}
 use Rattle.st_kernel_text.specs.declared.assignment.Mode.{Mode}
 use Rattle.st_kernel_text.specs.declared.parser.Parser.{Parser}
-use Rattle.st_kernel_text.specs.declared.parser.Stage.{Stage}
-use Rattle.st_kernel_text.specs.declared.parser.Stage.TheVariants.{Name, Named, Signed, InList, Closed}
+use Rattle.st_kernel_text.specs.declared.parser.Stage.TheVariants.{Name, Named, Signed, InList}
 use Rattle.st_kernel_text.specs.declared.value.Value.{Value}
 use Rattle.st_kernel_text.proofs.Heads.{head_read, name_read, blanks_read}
 use Rattle.st_kernel_text.proofs.ReadAll.{all_read, items_read, items_more, list_opens, values_read, closed, blank_closed}
@@ -31,14 +30,14 @@ pub record ReadsSigned (n : ℕ) (t rest : Data) : Type 0 where
 
 pub signed_read : (n : ℕ) (t rest : Data) → StandsSigned n t → ReadsSigned n t rest
 signed_read n t rest h = record {
-    done = h.done;
-    name = h.name;
-    mode = h.mode;
-    is = ap (λ (z : Data). steps_of (fresh []) (z ++ rest)) h.whole
+  done = h.done;
+  name = h.name;
+  mode = h.mode;
+  is = ap (λ (z : Data). steps_of (fresh []) (z ++ rest)) h.whole
       ∙ ap (steps_of (fresh [])) (append_assoc h.front h.head rest)
       ∙ all_read [] h.done h.front (h.head ++ rest) h.spells
-      ∙ head_read h.done h.name h.mode n h.head rest h.head_is
-  }
+      ∙ head_read h.done h.name h.mode n h.head rest h.head_is;
+}
 
 -- behind a name the reader is still in it, where no blank follows
 pub record ReadsNamed (t rest : Data) (word blanks : Data) : Type 0 where
@@ -47,12 +46,12 @@ pub record ReadsNamed (t rest : Data) (word blanks : Data) : Type 0 where
 
 pub named_read : (t rest : Data) → (h : StandsNamed t rest) → ReadsNamed t rest h.word h.blanks
 named_read t rest h = record {
-    done = h.done;
-    is = ap (λ (z : Data). steps_of (fresh []) (z ++ rest)) h.whole
+  done = h.done;
+  is = ap (λ (z : Data). steps_of (fresh []) (z ++ rest)) h.whole
       ∙ ap (steps_of (fresh [])) (append_assoc h.front (h.word ++ h.blanks) rest ∙ ap (λ (z : Data). h.front ++ z) (append_assoc h.word h.blanks rest))
       ∙ all_read [] h.done h.front (h.word ++ (h.blanks ++ rest)) h.spells
-      ∙ name_read h.done h.word (h.blanks ++ rest) h.name_is.some h.name_is.bytes
-  }
+      ∙ name_read h.done h.word (h.blanks ++ rest) h.name_is.some h.name_is.bytes;
+}
 
 pub record ReadsListed (n : ℕ) (vs : List Value) (t rest : Data) : Type 0 where
   pub done : List Assignment
@@ -70,10 +69,10 @@ listed_read n vs t rest h =
       mode = before.mode;
       sign_line = h.sign_line;
       is = ap (λ (z : Data). steps_of (fresh []) (z ++ rest)) h.whole
-        ∙ ap (steps_of (fresh [])) (append_assoc h.front ((n, 40) ∷ h.items) rest)
-        ∙ before.is
-        ∙ one_step _ _ n 40 (h.items ++ rest) (list_opens before.done before.name before.mode h.sign_line n)
-        ∙ items_read before.done before.name before.mode h.sign_line n [] vs h.items rest (items_more vs h.items [] rest h.spells) h.kind
+          ∙ ap (steps_of (fresh [])) (append_assoc h.front ((n, 40) ∷ h.items) rest)
+          ∙ before.is
+          ∙ one_step _ _ n 40 (h.items ++ rest) (list_opens before.done before.name before.mode h.sign_line n)
+          ∙ items_read before.done before.name before.mode h.sign_line n [] vs h.items rest (items_more vs h.items [] rest h.spells) h.kind;
     }
 
 pub record ReadsClosed (t rest : Data) : Type 0 where
@@ -97,9 +96,9 @@ closed_row_read t rest h =
       opened = behind.opened;
       values = h.values;
       is = ap (λ (z : Data). steps_of (fresh []) (z ++ rest)) h.whole
-        ∙ ap (steps_of (fresh [])) (append_assoc h.front (h.body ++ h.blanks) rest ∙ ap (λ (z : Data). h.front ++ z) (append_assoc h.body h.blanks rest))
-        ∙ before.is ∙ behind.is
-        ∙ skip _ is_blank h.blanks rest (blank_closed before.done before.name before.mode h.sign_line behind.opened h.values) h.are_blanks
+          ∙ ap (steps_of (fresh [])) (append_assoc h.front (h.body ++ h.blanks) rest ∙ ap (λ (z : Data). h.front ++ z) (append_assoc h.body h.blanks rest))
+          ∙ before.is ∙ behind.is
+          ∙ skip _ is_blank h.blanks rest (blank_closed before.done before.name before.mode h.sign_line behind.opened h.values) h.are_blanks;
     }
 
 -- in every row the data before it are read without a fault
@@ -116,8 +115,8 @@ named_on done word blanks t h e [] i =
     whole t (naming Name done (plain h.word)) (e ∙ ap (λ (z : Data). steps_of (naming Name done (plain h.word)) (z ++ [])) i)
 named_on done word blanks t h e (b ∷ bs) i =
     whole t (naming Named done (plain h.word))
-      (e ∙ ap (λ (z : Data). steps_of (naming Name done (plain h.word)) (z ++ [])) i
-        ∙ blanks_read done (plain h.word) b bs [] h.name_is (subst (λ (z : Data). list_all is_blank (plain z) ≡ true) i h.are_blanks))
+    (e ∙ ap (λ (z : Data). steps_of (naming Name done (plain h.word)) (z ++ [])) i
+    ∙ blanks_read done (plain h.word) b bs [] h.name_is (subst (λ (z : Data). list_all is_blank (plain z) ≡ true) i h.are_blanks))
 
 pub row_read : (row : Row) (t : Data) → Stands row t [] → ReadsOn t
 row_read between t h = let r = between_read t [] h in whole t (fresh r.done) r.is

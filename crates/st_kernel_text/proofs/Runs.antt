@@ -1,18 +1,18 @@
 -- The number that a run spells is the one that the reader answers.
-use Rattle.std.proofs.Common.{inl, inr, ◌⊎◌, ◌≡◌, ℕ, ◌<◌, ◌≤◌, Bool, true, false, List, [], ◌∷◌, length, Option, Some, None, Result, Ok, Err, refl, ap, sym, ◌∙◌, subst, arith}
-use Rattle.std.specs.Prelude.{◌==◌, ℤ, nat_lt, if◌then◌else◌, MatchBool}
+use Rattle.std.proofs.Common.{inl, inr, ◌≡◌, ℕ, ◌≤◌, Bool, List, [], ◌∷◌, length, Option, Some, None, Result, Ok, Err, refl, ap, sym, ◌∙◌, subst}
+use Rattle.std.specs.Prelude.{◌==◌, ℤ, nat_lt, MatchBool}
 use Rattle.std.proofs.lemmas.Bool.{cases_Bool, cond-true, cond-false, MatchBool-at_true, MatchBool-at_false, le-ltb, ltb-false}
 use Rattle.st_decimal.specs.declared.number.Dec.{Dec}
 use Rattle.st_decimal.specs.declared.number.DecFault.{DecFault}
 use Rattle.st_decimal.specs.NumberMachine.{dec_of}
-use Rattle.st_decimal.specs.Value.{ReadsDec, IsScaled}
+use Rattle.st_decimal.specs.Value.{ReadsDec}
 use Rattle.st_decimal.proofs.Answered.{meets, one_answer}
 use Rattle.st_decimal.proofs.Scaled.{one_scaled}
 use Rattle.st_dates.specs.declared.fault.DateFault.{DateFault}
 use Rattle.st_dates.specs.AtDate.{ReadsAtDate, IsInRange}
 use Rattle.st_dates.specs.AtDateMachine.{at_date_of}
 use Rattle.st_dates.proofs.DateLaws.{reads, only}
-use Rattle.st_kernel_text.specs.DateValue.{IsSeconds, is_negative}
+use Rattle.st_kernel_text.specs.DateValue.{IsSeconds}
 use Rattle.st_kernel_text.specs.ValueMachine.{seconds_of, dated, numbered_value, date_number, short_number, number_of_run}
 use Rattle.st_kernel_text.specs.Values.{ReadsRun, ReadsDate, ReadsNumber}
 use Rattle.st_kernel_text.proofs.Seconds.{seconds_is}
@@ -23,7 +23,7 @@ ranged t z (w, spelled, moment, inside) = inside
 date_only : (t : List ℕ) (d : Dec) → ReadsDate t d → date_number t ≡ Some d
 date_only t d h =
     ap dated (only t (Ok h.instant) h.reads)
-      ∙ ap Some (one_scaled _ _ _ (seconds_of h.instant) d (seconds_is h.instant (ranged t h.instant h.reads)) h.seconds)
+    ∙ ap Some (one_scaled _ _ _ (seconds_of h.instant) d (seconds_is h.instant (ranged t h.instant h.reads)) h.seconds)
 
 number_only : (t : List ℕ) (d : Dec) → ReadsNumber t d → short_number t ≡ Some d
 number_only t d h = cond-false _ _ _ (le-ltb _ _ h.short) ∙ ap numbered_value (one_answer t (Ok d) h.reads)
@@ -33,8 +33,8 @@ unfolding number_of_run
 run_only [] d h = absurd h
 run_only (b ∷ t) d h =
     elim (cases_Bool (b == 64)) [
-      inl y ↦ cond-true _ _ _ y ∙ date_only t d (MatchBool-at_true _ _ y h)
-    | inr n ↦ cond-false _ _ _ n ∙ number_only (b ∷ t) d (MatchBool-at_false _ _ n h)
+      | inl y ↦ cond-true _ _ _ y ∙ date_only t d (MatchBool-at_true _ _ y h)
+      | inr n ↦ cond-false _ _ _ n ∙ number_only (b ∷ t) d (MatchBool-at_false _ _ n h)
     ]
 
 date_some : (t : List ℕ) (d : Dec) (r : Result ℤ DateFault) → ReadsAtDate t r → dated r ≡ Some d → ReadsDate t d
@@ -52,8 +52,8 @@ number_some t d (Err f) s h e = absurd (cc)
 short_some : (t : List ℕ) (d : Dec) → short_number t ≡ Some d → ReadsNumber t d
 short_some t d h =
     elim (cases_Bool (nat_lt 1000 (length t))) [
-      inl y ↦ let none : None ≡ Some d = sym (cond-true _ _ _ y) ∙ h in absurd (cc)
-    | inr n ↦ number_some t d (dec_of t) (ltb-false _ _ n) (meets t) (sym (cond-false _ _ _ n) ∙ h)
+      | inl y ↦ let none : None ≡ Some d = sym (cond-true _ _ _ y) ∙ h in absurd (cc)
+      | inr n ↦ number_some t d (dec_of t) (ltb-false _ _ n) (meets t) (sym (cond-false _ _ _ n) ∙ h)
     ]
 
 pub run_reads : (t : List ℕ) (d : Dec) → number_of_run t ≡ Some d → ReadsRun t d
@@ -62,8 +62,8 @@ run_reads [] d h = absurd (cc)
 run_reads (b ∷ t) d h =
     let P : Bool → Type 0 = λ c. MatchBool c (ReadsDate t d) (ReadsNumber (b ∷ t) d) in
     elim (cases_Bool (b == 64)) [
-      inl y ↦ subst P (sym y) (date_some t d (at_date_of t) (reads t) (sym (cond-true _ _ _ y) ∙ h))
-    | inr n ↦ subst P (sym n) (short_some (b ∷ t) d (sym (cond-false _ _ _ n) ∙ h))
+      | inl y ↦ subst P (sym y) (date_some t d (at_date_of t) (reads t) (sym (cond-true _ _ _ y) ∙ h))
+      | inr n ↦ subst P (sym n) (short_some (b ∷ t) d (sym (cond-false _ _ _ n) ∙ h))
     ]
 
 -- a run that the reader has no number for spells none
@@ -73,6 +73,6 @@ run_none t h d r = let other : None ≡ Some d = sym h ∙ run_only t d r in abs
 pub run_missing : (t : List ℕ) → ((d : Dec) → ReadsRun t d → ⊥) → number_of_run t ≡ None
 run_missing t h = missing t h (number_of_run t) refl
   where
-  missing : (t : List ℕ) → ((d : Dec) → ReadsRun t d → ⊥) → (o : Option Dec) → number_of_run t ≡ o → number_of_run t ≡ None
-  missing t h None e = e
-  missing t h (Some d) e = absurd (h d (run_reads t d e))
+    missing : (t : List ℕ) → ((d : Dec) → ReadsRun t d → ⊥) → (o : Option Dec) → number_of_run t ≡ o → number_of_run t ≡ None
+    missing t h None e = e
+    missing t h (Some d) e = absurd (h d (run_reads t d e))

@@ -1,6 +1,6 @@
 -- The seconds of a date are what is left of its units without the zeros at their end.
-use Rattle.std.proofs.Common.{inl, inr, ◌⊎◌, ◌≡◌, ◌≢◌, ℕ, ◌+◌, ◌-◌, ◌*◌, ◌/◌, ◌%◌, ◌^◌, ◌<◌, ◌≤◌, zero, suc, Bool, true, false, List, Option, Some, None, Result, Ok, Err, refl, ap, sym, ◌∙◌, subst, arith}
-use Rattle.std.specs.Prelude.{◌==◌, ℤ, pos, negsuc, ◌+ℤ◌, ◌≤ℤ◌, unsigned_abs, if◌then◌else◌}
+use Rattle.std.proofs.Common.{inl, inr, ◌≡◌, ◌≢◌, ℕ, ◌+◌, ◌*◌, ◌/◌, ◌%◌, ◌^◌, ◌<◌, zero, suc, Bool, refl, ap, sym, subst, arith}
+use Rattle.std.specs.Prelude.{◌==◌, ℤ, pos, negsuc, ◌+ℤ◌, unsigned_abs}
 use Rattle.std.proofs.Math.Nat.{pow-suc, mul_assoc}
 use Rattle.std.proofs.lemmas.Bool.{cases_Bool, cond-true, cond-false, eqb-true, eqb-false}
 use Rattle.std.proofs.lemmas.Int.{ints}
@@ -8,7 +8,7 @@ use Rattle.st_decimal.specs.declared.number.Dec.{Dec}
 use Rattle.st_decimal.specs.Value.{IsScaled, signed}
 use Rattle.st_dates.specs.AtDate.{IsInRange}
 use Rattle.st_kernel_text.specs.DateValue.{IsSeconds, is_negative}
-use Rattle.st_kernel_text.specs.ValueMachine.{strip_of, stripped, seconds_of}
+use Rattle.st_kernel_text.specs.ValueMachine.{strip_of, seconds_of}
 
 record Strips (n done : ℕ) (r : ℕ × ℕ) : Type 0 where
   more : ℕ
@@ -22,23 +22,28 @@ strip_law zero n done s h = absurd (omega (arith, s, h))
 strip_law (suc f) n done s h =
     let P : ℕ × ℕ → Type 0 = Strips n done in
     elim (cases_Bool (n % 10 == 0)) [
-      inl y ↦
-        let tenth = eqb-true _ _ y in
-        let rest = strip_law f (n / 10) (done + 1) (omega (arith, s, tenth)) (omega (arith, h, tenth, pow-suc 10 f)) in
-        subst P (sym (cond-true _ _ _ y)) (record {
-          more = suc rest.more;
-          count = omega (arith, rest.count);
-          value = omega (arith, rest.value, tenth, ap (λ (x : ℕ). (strip_of f (n / 10) (done + 1)).0 * x) (pow-suc 10 rest.more),
-            mul_assoc (strip_of f (n / 10) (done + 1)).0 (10 ^ rest.more) 10);
-          last = rest.last
-        })
-    | inr n0 ↦
-        subst P (sym (cond-false _ _ _ n0)) (record {
-          more = 0;
-          count = omega arith;
-          value = omega arith;
-          last = eqb-false _ _ n0
-        })
+      | inl y ↦
+          let tenth = eqb-true _ _ y in
+          let rest = strip_law f (n / 10) (done + 1) (omega (arith, s, tenth)) (omega (arith, h, tenth, pow-suc 10 f)) in
+          subst P (sym (cond-true _ _ _ y)) (record {
+            more = suc rest.more;
+            count = omega (arith, rest.count);
+            value = omega (
+              arith,
+              rest.value,
+              tenth,
+              ap (λ (x : ℕ). (strip_of f (n / 10) (done + 1)).0 * x) (pow-suc 10 rest.more),
+              mul_assoc (strip_of f (n / 10) (done + 1)).0 (10 ^ rest.more) 10,
+            );
+            last = rest.last;
+          })
+      | inr n0 ↦
+          subst P (sym (cond-false _ _ _ n0)) (record {
+            more = 0;
+            count = omega arith;
+            value = omega arith;
+            last = eqb-false _ _ n0;
+          })
     ]
 
 in_range : (z : ℤ) → IsInRange z → unsigned_abs z < 10 ^ 30
@@ -60,8 +65,8 @@ unfolding seconds_of
 seconds_is z r =
     let P : Dec → Type 0 = IsSeconds z in
     elim (cases_Bool (unsigned_abs z == 0)) [
-      inl y ↦ subst P (sym (cond-true _ _ _ y)) (zero_scaled (is_negative z) (unsigned_abs z) (eqb-true _ _ y))
-    | inr n ↦
-        let some : 0 < unsigned_abs z = omega (arith, eqb-false _ _ n) in
-        subst P (sym (cond-false _ _ _ n)) (scaled (is_negative z) (unsigned_abs z) some (strip_law 30 (unsigned_abs z) 0 some (in_range z r)))
+      | inl y ↦ subst P (sym (cond-true _ _ _ y)) (zero_scaled (is_negative z) (unsigned_abs z) (eqb-true _ _ y))
+      | inr n ↦
+          let some : 0 < unsigned_abs z = omega (arith, eqb-false _ _ n) in
+          subst P (sym (cond-false _ _ _ n)) (scaled (is_negative z) (unsigned_abs z) some (strip_law 30 (unsigned_abs z) 0 some (in_range z r)))
     ]

@@ -1,13 +1,13 @@
 -- At the end of a line the reader stands between assignments, behind a sign or in a list.
-use Rattle.std.proofs.Common.{inl, inr, ◌⊎◌, ◌≡◌, ℕ, Bool, true, false, List, [], ◌∷◌, ◌++◌, Option, Some, None, Result, Ok, Err, refl, ap, sym, ◌∙◌, subst}
-use Rattle.std.specs.Prelude.{◌==◌, ◌||◌, ◌&&◌, if◌then◌else◌, ⊤}
+use Rattle.std.proofs.Common.{◌≡◌, ℕ, Bool, true, false, List, [], Option, Some, None, Result, Ok, Err, refl, ap, sym, ◌∙◌, subst}
+use Rattle.std.specs.Prelude.{⊤}
 use Rattle.std.proofs.lemmas.Bool.{cond_both, both_ways}
 use Rattle.st_decimal.specs.declared.number.Dec.{Dec}
 use Rattle.st_kernel_text.specs.Bytes.{is_name_byte, is_run_byte}
 use Rattle.st_kernel_text.specs.Fault.{Fault}
 use Rattle.st_kernel_text.specs.Faults.{Row, between, behind_sign, in_list, Stands, IsUnfinished}
 use Rattle.st_kernel_text.specs.Grammar.{Data, SpellsAll}
-use Rattle.st_kernel_text.specs.ParserMachine.{◌>>=◌, fresh, is_name, put_of, taken_of, step_in, step_of, steps_of, finish_in, finish_of}
+use Rattle.st_kernel_text.specs.ParserMachine.{fresh, is_name, put_of, taken_of, step_in, step_of, finish_in, finish_of}
 use Rattle.st_kernel_text.specs.ValueMachine.{number_of_run, fits}
 use Rattle.st_kernel_text.specs.declared.assignment.Assignment.{Assignment}
 use Rattle.st_kernel_text.specs.declared.parser.Parser.{Parser}
@@ -15,7 +15,7 @@ use Rattle.st_kernel_text.specs.declared.parser.Stage.{Stage}
 use Rattle.st_kernel_text.specs.declared.parser.Stage.TheVariants.{Fresh, Name, Named, Plus, Signed, InList, Run, Quoted, Quote, Closed}
 use Rattle.st_kernel_text.specs.declared.value.Value.{Value}
 use Rattle.st_kernel_text.specs.declared.value.Value.TheVariants.{Number, Text}
-use Rattle.st_kernel_text.proofs.Live.{Live, IsBetween, IsSigned, IsListed, live_between, live_naming, live_named, live_plus, live_waits, live_run, live_text, live_quote, live_closed, waits_signed, waits_listed, head_stands}
+use Rattle.st_kernel_text.proofs.Live.{Live, IsSigned, IsListed, live_between, live_naming, live_named, live_plus, live_waits, live_run, live_text, live_quote, live_closed, waits_signed, waits_listed, head_stands}
 use Rattle.st_kernel_text.proofs.LiveValues.{listed_stands}
 use Rattle.st_kernel_text.proofs.States.{signed}
 

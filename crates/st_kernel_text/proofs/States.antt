@@ -1,25 +1,22 @@
 -- The states of the reader, and the tests of its first bytes.
-use Rattle.std.proofs.Common.{inl, inr, ◌⊎◌, ◌≡◌, ℕ, ◌+◌, ◌-◌, ◌<◌, ◌≤◌, zero, suc, Bool, true, false, not, ◌&&◌, List, [], ◌∷◌, ◌++◌, length, take, get_or, map, Option, Some, None, Result, Ok, Err, refl, ap, sym, ◌∙◌, subst, arith, append_assoc}
-use Rattle.std.specs.Prelude.{◌==◌, ◌||◌, nat_le, if◌then◌else◌}
+use Rattle.std.proofs.Common.{◌≡◌, ℕ, Bool, true, false, ◌&&◌, List, [], ◌∷◌, ◌++◌, Option, None, Result, Ok, Err, refl, ap, ◌∙◌, arith}
+use Rattle.std.specs.Prelude.{◌==◌, ◌||◌}
 use Rattle.std.specs.List.{list_all}
-use Rattle.std.proofs.lemmas.Bool.{and_parts, and_from, cond-true, cond-false, or_cases, or_parts, leb-true, eqb-true, ne_eqb, le-leb, both_ways}
+use Rattle.std.proofs.lemmas.Bool.{and_parts, and_from}
 use Rattle.std.proofs.lemmas.Bool.Decides.{nat_tests}
 use Rattle.std.proofs.lemmas.Grind.{common_steps}
-use Rattle.std.proofs.lemmas.List.{append-nil}
 use Rattle.std.proofs.lemmas.List.Folds.{list_all-append}
 use Rattle.st_text.specs.Bytes.{is_blank}
-use Rattle.st_text.proofs.Trimmed.{front_and_last}
-use Rattle.st_kernel_text.specs.Bytes.{is_space, is_separator, is_delimiter, is_name_byte, is_run_byte}
-use Rattle.st_kernel_text.specs.Fault.{Fault, fails}
-use Rattle.st_kernel_text.specs.Grammar.{Data, plain, IsName}
-use Rattle.st_kernel_text.specs.ParserMachine.{◌>>=◌, fresh, is_name, ends_in_plus, without_last, step_of, steps_of}
+use Rattle.st_kernel_text.specs.Bytes.{is_space, is_name_byte, is_run_byte}
+use Rattle.st_kernel_text.specs.Fault.{Fault}
+use Rattle.st_kernel_text.specs.Grammar.{Data, plain}
+use Rattle.st_kernel_text.specs.ParserMachine.{◌>>=◌, step_of, steps_of}
 use Rattle.st_kernel_text.specs.Values.{may_follow}
 use Rattle.st_kernel_text.specs.declared.assignment.Assignment.{Assignment}
 use Rattle.st_kernel_text.specs.declared.assignment.Mode.{Mode}
-use Rattle.st_kernel_text.specs.declared.assignment.Mode.TheVariants.{Set, Add}
+use Rattle.st_kernel_text.specs.declared.assignment.Mode.TheVariants.{Set}
 use Rattle.st_kernel_text.specs.declared.parser.Parser.{Parser}
 use Rattle.st_kernel_text.specs.declared.parser.Stage.{Stage}
-use Rattle.st_kernel_text.specs.declared.parser.Stage.TheVariants.{Fresh, Name, Named, Plus, Signed, InList, Run, Quoted, Quote, Closed}
 use Rattle.st_kernel_text.specs.declared.value.Value.{Value}
 
 -- in a name and behind it
@@ -89,4 +86,3 @@ run_no_quote b h = grind (arith, nat_tests, common_steps)
 
 pub follow_no_quote : (b : ℕ) → may_follow b ≡ true → (b == 39) ≡ false
 follow_no_quote b h = grind (arith, nat_tests, common_steps)
-

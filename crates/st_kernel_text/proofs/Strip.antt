@@ -1,6 +1,6 @@
 -- Zeros at the end of a number.
-use Rattle.std.proofs.Common.{◌≡◌, ℕ, ◌+◌, ◌-◌, ◌/◌, ◌%◌, ◌<◌, zero, suc, Bool, true, false, refl, ap, ◌∙◌, arith}
-use Rattle.std.specs.Prelude.{◌==◌, if◌then◌else◌}
+use Rattle.std.proofs.Common.{◌≡◌, ℕ, ◌+◌, ◌-◌, ◌/◌, ◌%◌, ◌<◌, zero, suc, true, false, refl, ap, ◌∙◌, arith}
+use Rattle.std.specs.Prelude.{◌==◌}
 use Rattle.st_kernel_text.specs.ValueMachine.{strip_of}
 
 pub strip_more : (z n : ℕ) → z < 30 → (n % 10 == 0) ≡ true → strip_of (30 - z) n z ≡ strip_of (30 - (z + 1)) (n / 10) (z + 1)

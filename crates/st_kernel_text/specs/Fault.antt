@@ -1,5 +1,5 @@
 -- A fault of a text: the line and what breaks there.
-use Rattle.std.specs.Prelude.{ℕ, Result, Ok, Err}
+use Rattle.std.specs.Prelude.{ℕ, Result, Err}
 use Rattle.st_kernel_text.specs.declared.fault.TextCause.{TextCause}
 
 pub record Fault : Type 0 where

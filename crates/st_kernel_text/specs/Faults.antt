@@ -1,12 +1,11 @@
 -- The first token that cannot go on from the spelling before it. A token and the byte directly behind
 -- it stand on one line, since the end of a line counts to the line that it ends: so the line of a
 -- fault is the number of the byte at which the token breaks.
-use Rattle.std.specs.Prelude.{◌≡◌, ◌≢◌, ℕ, ◌<◌, ◌≤◌, Bool, true, false, List, [], ◌∷◌, ◌++◌, length, ◌==◌, ◌||◌, IsTrue, ◌⊎◌}
-use Rattle.std.specs.List.{list_all}
+use Rattle.std.specs.Prelude.{◌≡◌, ℕ, Bool, false, List, [], ◌∷◌, ◌++◌, length, ◌==◌, ◌||◌, IsTrue, ◌⊎◌}
 use Rattle.st_text.specs.Bytes.{is_blank}
 use Rattle.st_decimal.specs.declared.number.Dec.{Dec}
-use Rattle.st_kernel_text.specs.Bytes.{is_space, is_separator, is_name_byte, is_run_byte}
-use Rattle.st_kernel_text.specs.Grammar.{Data, plain, AreAll, IsName, SpellsHead, EndsValue, same_kind, AreOfOneKind, SpellsItems, SpellsValues, SpellsAll}
+use Rattle.st_kernel_text.specs.Bytes.{is_space, is_name_byte, is_run_byte}
+use Rattle.st_kernel_text.specs.Grammar.{Data, plain, AreAll, IsName, SpellsHead, same_kind, AreOfOneKind, SpellsItems, SpellsValues, SpellsAll}
 use Rattle.st_kernel_text.specs.Values.{Spells, ReadsRun, IsContent, quoted, cause_of_run, may_follow}
 use Rattle.st_kernel_text.specs.declared.assignment.Assignment.{Assignment}
 use Rattle.st_kernel_text.specs.declared.assignment.Mode.{Mode}

@@ -1,6 +1,6 @@
 -- A kernel file by its lines, after NAIF's Kernel Required Reading, "Text Kernel Specifications": data
 -- stand between the markers \begindata and \begintext, all else is commentary.
-use Rattle.std.specs.Prelude.{◌≡◌, ℕ, ◌+◌, ◌<◌, ◌≤◌, Bool, true, false, not, ◌&&◌, List, [], ◌∷◌, ◌++◌, length, drop, map, codes, nat_eq, Result, Ok, Err, IsTrue, ⊤, ◌⊎◌, if◌then◌else◌}
+use Rattle.std.specs.Prelude.{◌≡◌, ℕ, ◌+◌, ◌<◌, ◌≤◌, Bool, true, false, ◌&&◌, List, [], ◌∷◌, ◌++◌, length, drop, map, codes, nat_eq, Result, Ok, Err, ⊤, ◌⊎◌, if◌then◌else◌}
 use Rattle.std.specs.List.{list_all, starts_with}
 use Rattle.st_text.specs.Bytes.{is_blank}
 use Rattle.st_text.specs.Lines.{skip_blanks, lines_of}

@@ -1,5 +1,5 @@
 -- The reader of lines: each is the twin of a function of the code.
-use Rattle.std.specs.Prelude.{ℕ, ◌+◌, true, false, List, [], ◌∷◌, length, Result, Ok, Err, nat_lt, if◌then◌else◌}
+use Rattle.std.specs.Prelude.{ℕ, ◌+◌, true, false, List, [], ◌∷◌, length, Result, Ok, nat_lt, if◌then◌else◌}
 use Rattle.std.specs.List.{list_all}
 use Rattle.st_text.specs.Lines.{lines_of}
 use Rattle.st_kernel_text.specs.Bytes.{is_allowed}

@@ -1,9 +1,9 @@
 -- The reader of data as functions on bytes and their line's number: each is the twin of a function of
 -- the code. Every data line is ended by a 10.
-use Rattle.std.specs.Prelude.{◌≡◌, ℕ, ◌-◌, Bool, true, false, not, ◌&&◌, ◌||◌, List, [], ◌∷◌, ◌++◌, length, take, slice_index, Option, Some, None, Result, Ok, Err, ◌==◌, nat_lt, nat_le, if◌then◌else◌}
+use Rattle.std.specs.Prelude.{◌≡◌, ℕ, ◌-◌, Bool, not, ◌&&◌, ◌||◌, List, [], ◌∷◌, ◌++◌, length, take, slice_index, Option, Some, None, Result, Ok, Err, ◌==◌, nat_lt, nat_le, if◌then◌else◌}
 use Rattle.st_text.specs.Bytes.{is_blank}
 use Rattle.st_decimal.specs.declared.number.Dec.{Dec}
-use Rattle.st_kernel_text.specs.Bytes.{is_space, is_separator, is_delimiter, is_name_byte, is_run_byte}
+use Rattle.st_kernel_text.specs.Bytes.{is_space, is_separator, is_name_byte, is_run_byte}
 use Rattle.st_kernel_text.specs.Fault.{Fault, fails}
 use Rattle.st_kernel_text.specs.ValueMachine.{number_of_run, fits}
 use Rattle.st_kernel_text.specs.Values.{cause_of_run, may_follow}

@@ -70,3 +70,31 @@ impl AssignmentList {
         self.items.as_slice()
     }
 }
+
+#[cfg(test)]
+mod tests {
+    use super::*;
+    use crate::{Mode, ValueList};
+    use st_decimal::KText;
+    use std::test::Fail;
+
+    #[test]
+    fn keeps_assignments(rt: HostRuntime) -> Result<(), Fail> {
+        let mut list = AssignmentList::new(rt.alloc());
+        assert!(rt; list.is_empty());
+        list.push(Assignment {
+            name: KText::from_slice(rt.alloc(), b"SCLK_FILE")?,
+            mode: Mode::Add,
+            values: ValueList::new(rt.alloc()),
+        })?;
+        assert_eq!(rt; list.len(), 1);
+        assert!(rt; list.get(1).is_none());
+        if let Some(only) = list.get(0) {
+            assert_eq!(rt; only.name.as_slice(), b"SCLK_FILE".as_slice());
+            assert_eq!(rt; only.mode, Mode::Add);
+            assert!(rt; only.values.is_empty());
+        }
+        assert_eq!(rt; list.as_slice().len(), 1);
+        Ok(())
+    }
+}

@@ -41,7 +41,12 @@ impl Kernel {
 
 /// Reads one line, without its end.
 #[tactic(auto, unfolding(crate::specs::LinesMachine::line_of))]
-pub fn read_line(alloc: Global, kernel: &mut Kernel, number: u64, line: &[u8]) -> Result<(), TextFault>
+pub fn read_line(
+    alloc: Global,
+    kernel: &mut Kernel,
+    number: u64,
+    line: &[u8],
+) -> Result<(), TextFault>
     ensures { Gives kernel.new result (line_of kernel.old number line.now) }
 {
     if line.len() > MOST_BYTES {

@@ -6,12 +6,14 @@ mod assignment_list;
 mod bytes;
 mod fault;
 mod kernel;
+mod names;
 mod number;
 mod parser;
 mod reading;
 mod steps;
 mod value;
 mod value_list;
+mod values;
 
 pub use assignment::{Assignment, Mode};
 pub use assignment_list::AssignmentList;

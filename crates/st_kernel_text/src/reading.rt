@@ -59,7 +59,6 @@ mod tests {
     use st_decimal::Dec;
     use std::test::Fail;
 
-    /// The bytes of values one behind the other, a number as its digits and its power of ten.
     fn is_number(values: &ValueList, digits: i128, tens: i32) -> bool {
         match values.as_slice() {
             [Value::Number(number)] => *number == Dec { digits, tens },
@@ -102,7 +101,7 @@ mod tests {
 
     #[test]
     fn reports_faults(rt: HostRuntime) -> Result<(), Fail> {
-        let table: [(&[u8], u64, TextCause); 12] = [
+        let table: [(&[u8], u64, TextCause); 16] = [
             (b"\\begindata\nX = 1E2, 'a'", 2, TextCause::TrailingText),
             (b"\\begindata\nX = ( )", 2, TextCause::NoValue),
             (b"\\begindata\nX = ((1)", 2, TextCause::BadNumber),
@@ -111,10 +110,18 @@ mod tests {
             (b"\\begindata\nX = @2000-13-01", 2, TextCause::BadDate),
             (b"\\begindata\nX = 1E401", 2, TextCause::BadNumber),
             (b"\\begindata\nX = ( 1, 'a' )\n", 2, TextCause::MixedKinds),
+            (b"\\begindata\nX = ( 1 'a'b )\n", 2, TextCause::BadString),
+            (
+                b"\\begindata\nX = ( 1 'a' 1E999 )\n",
+                2,
+                TextCause::MixedKinds,
+            ),
             (b"\\begindata\nX = ( 1,\n", 2, TextCause::Unclosed),
+            (b"\\begindata\nX = \n( 1,\n\n", 3, TextCause::Unclosed),
             (b"\\begindata\nX++=1\n", 2, TextCause::NoName),
             (b"\\begindata\nX = 1\x7f\n", 2, TextCause::BadByte),
-            (b"\\begindata\nX =\n\\begintext\n", 2, TextCause::NoValue),
+            (b"\\begindata\n\nX =\n\\begintext\n", 3, TextCause::NoValue),
+            (b"\\begindata\nX = 1)\n", 2, TextCause::TrailingText),
         ];
         for (file, line, cause) in table {
             match read_kernel(rt.alloc(), file) {
@@ -124,7 +131,13 @@ mod tests {
         }
         let long = [b'x'; 1001];
         match read_kernel(rt.alloc(), &long) {
-            Err(fault) => assert_eq!(rt; fault, TextFault::At { line: 1, cause: TextCause::LineTooLong }),
+            Err(fault) => assert_eq!(rt;
+                fault,
+                TextFault::At {
+                    line: 1,
+                    cause: TextCause::LineTooLong
+                }
+            ),
             Ok(_) => assert!(rt; false),
         }
         Ok(())

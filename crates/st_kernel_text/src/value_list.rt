@@ -70,3 +70,41 @@ impl ValueList {
         self.items.as_slice()
     }
 }
+
+#[cfg(test)]
+mod tests {
+    use super::*;
+    use st_decimal::{Dec, KText};
+    use std::test::Fail;
+
+    #[test]
+    fn keeps_values(rt: HostRuntime) -> Result<(), Fail> {
+        let mut list = ValueList::new(rt.alloc());
+        assert!(rt; list.is_empty());
+        list.push(Value::Number(Dec {
+            digits: -15,
+            tens: 1,
+        }))?;
+        list.push(Value::Text(KText::from_slice(rt.alloc(), b"it's")?))?;
+        assert_eq!(rt; list.len(), 2);
+        assert!(rt; list.get(2).is_none());
+        match list.get(0) {
+            Some(Value::Number(number)) => assert_eq!(rt;
+                *number,
+                Dec {
+                    digits: -15,
+                    tens: 1
+                }
+            ),
+            _ => assert!(rt; false),
+        }
+        match list.as_slice() {
+            [Value::Number(_), Value::Text(text)] => assert_eq!(rt;
+                text.as_slice(),
+                b"it's".as_slice()
+            ),
+            _ => assert!(rt; false),
+        }
+        Ok(())
+    }
+}

@@ -1,11 +1,13 @@
-use Rattle.std.proofs.Common.{◌≡◌, ◌≤◌, ◌∙◌, sym, arith, ne_eqb, eq-eqb}
+use Rattle.std.proofs.Common.{◌∙◌, sym, arith, ne_eqb, eq-eqb}
 use Rattle.st_kernel_text.proofs.Strip.{strip_more, strip_end, strip_none}
 use Rattle.st_kernel_text.proofs.number.strip.Goals as goal
 
 pub loop-zeros-preserved : goal.loop-zeros-preserved
-loop-zeros-preserved c =
-    (sym (strip_more c.loop-zeros.zeros c.loop-zeros.rest c.loop-zeros-test.true (eq-eqb _ _ c.if-rest-eq0.true)) ∙ c.loop-zeros.invariant.0,
-      omega arith, omega (arith, c.loop-zeros.invariant.2))
+loop-zeros-preserved c = (
+  sym (strip_more c.loop-zeros.zeros c.loop-zeros.rest c.loop-zeros-test.true (eq-eqb _ _ c.if-rest-eq0.true)) ∙ c.loop-zeros.invariant.0,
+  omega arith,
+  omega (arith, c.loop-zeros.invariant.2),
+)
 
 pub returns-else-rest-eq0-clause-value : goal.returns-else-rest-eq0-clause-value
 returns-else-rest-eq0-clause-value c =
