@@ -1,0 +1,267 @@
+-- What contains 2 s c and c c - s s for all s and c that two enclosures contain has the sine and the cosine of twice the
+-- angle.
+use Rattle.std.proofs.Common.{◌≡◌, ℕ, ◌+◌, ◌*◌, ◌^◌, ◌≤◌, ◌<◌, ℤ, pos, negsuc, ◌+ℤ◌, ◌*ℤ◌, neg_ℤ, ◌≤ℤ◌, ◌<ℤ◌, unsigned_abs, ap, ◌∙◌, arith, lit<, mul-pos, mul-le-mul, mul-le-mul_right, mul_comm, subst}
+use Rattle.std.proofs.Math.IntN.{*ℤ_comm}
+use Rattle.std.proofs.lemmas.Int.{ints}
+use Rattle.st_fraction.specs.Fraction.{Fraction, IsFraction, ◌≤ᶠ◌, ◌<ᶠ◌, ◌≈ᶠ◌, over, whole, units, ◌+ᶠ◌, neg_f, ◌-ᶠ◌, ◌*ᶠ◌, abs_f, LiesWithin, IsNear}
+use Rattle.st_fraction.proofs.Ring.{ring, lin, le-mul_z, two-mul_z, add-mul_z}
+use Rattle.st_fraction.proofs.Order.{le_f_refl, le_f_trans, le_f_add, le_f_cases, le_of_lt_f}
+use Rattle.st_enclosure.specs.Ends.{EndsAtMost}
+use Rattle.st_series.specs.Series.{term, sine_sum, cosine_sum}
+use Rattle.st_series.specs.Enclosed.{HasSine, HasCosine}
+use Rattle.st_series.proofs.Terms.{term-den, sine_sum-den, cosine_sum-den}
+use Rattle.st_series.proofs.Vanish.{enough_for, vanishing_from}
+use Rattle.st_series.proofs.Narrow.{long_from}
+use Rattle.st_series.proofs.Addition.{sine_addition, cosine_addition}
+use Rattle.st_series.proofs.Values.{sine_sum_at_most, sine_sum_at_least, cosine_sum_at_most, cosine_sum_at_least, sine_at_most_in_the_end, sine_at_least_in_the_end, cosine_at_most_in_the_end, cosine_at_least_in_the_end}
+use Rattle.st_sine.proofs.Carried.{has_sine_same, has_cosine_same}
+use Rattle.st_sine.proofs.Twice.{AreClose, sine_of_twice, cosine_of_twice}
+
+-- A number that is near an interval is near one that the interval contains.
+pub record Clamped (lo hi : ℤ) (s e : Fraction) : Type 0 where
+  value : Fraction
+  den : 0 < value.den
+  within : LiesWithin lo hi value
+  near : IsNear s value e
+
+le_more : (a e : Fraction) → pos 0 ≤ℤ e.num → a ≤ᶠ (a +ᶠ e)
+le_more a e h = record { le = go a.num e.num a.den e.den h }
+  where
+    shape : (n d m f : ℤ) → pos 0 ≤ℤ (m *ℤ (d *ℤ d)) → (n *ℤ (d *ℤ f)) ≤ℤ ((n *ℤ f +ℤ m *ℤ d) *ℤ d)
+    shape n d m f h = simp ring (let h2 = simp ring at h in omega (arith, lin))
+
+    go : (n m : ℤ) (d f : ℕ) → pos 0 ≤ℤ m → (n *ℤ pos (d * f)) ≤ℤ ((n *ℤ pos f +ℤ m *ℤ pos d) *ℤ pos d)
+    go n m d f h = shape n (pos d) m (pos f) (let l = le-mul_z (pos 0) m (d * d) h in omega (arith, ints))
+
+clamp : (lo hi : ℤ) (s e : Fraction) → lo ≤ℤ hi → 0 < s.den → pos 0 ≤ℤ e.num → units lo ≤ᶠ (s +ᶠ e) → s ≤ᶠ (units hi +ᶠ e) → Clamped lo hi s e
+clamp lo hi s e order ps pe low high = le_f_cases (units lo) s
+    (λ (h : units lo ≤ᶠ s). le_f_cases s (units hi)
+    (λ (k : s ≤ᶠ units hi). record { value = s; den = ps; within = record { from = h; to = k }; near = record { above = le_more s e pe; below = le_more s e pe } })
+    (λ (k : units hi <ᶠ s). record {
+      value = units hi;
+      den = lit< tt;
+      within = record { from = between; to = le_f_refl (units hi) };
+      near = record { above = high; below = le_f_trans (units hi) s (s +ᶠ e) ps (le_of_lt_f (units hi) s k) (le_more s e pe) };
+    }))
+    (λ (h : s <ᶠ units lo). record {
+      value = units lo;
+      den = lit< tt;
+      within = record { from = le_f_refl (units lo); to = between };
+      near = record { above = le_f_trans s (units lo) (units lo +ᶠ e) (lit< tt) (le_of_lt_f s (units lo) h) (le_more (units lo) e pe); below = low };
+    })
+  where
+    between : units lo ≤ᶠ units hi
+    between = record { le = le-mul_z lo hi (10 ^ 18) order }
+
+-- the bounds of an interval of at most 2 to either side
+high_two : (lo hi : ℤ) (s : Fraction) → EndsAtMost lo hi (2 * 10 ^ 18) → LiesWithin lo hi s → s ≤ᶠ whole (pos 2)
+high_two lo hi s h w = le_f_trans s (units hi) (whole (pos 2)) (lit< tt) w.to (record { le = let k = h.high in omega (arith, ints) })
+
+low_two : (lo hi : ℤ) (s : Fraction) → EndsAtMost lo hi (2 * 10 ^ 18) → LiesWithin lo hi s → neg_f s ≤ᶠ whole (pos 2)
+low_two lo hi s h w = record { le = flip s.num s.den (le_f_trans (whole (negsuc 1)) (units lo) s (lit< tt) (record { le = let k = h.low in omega (arith, ints) }) w.from).le }
+  where
+    flip : (n : ℤ) (d : ℕ) → (negsuc 1 *ℤ pos d) ≤ℤ (n *ℤ pos 1) → (neg_ℤ n *ℤ pos 1) ≤ℤ (pos 2 *ℤ pos d)
+    flip n d h = omega (arith, ints)
+
+-- One over d, how long a sum has to be so that what is left out is below it, and the facts from there on.
+abbrev pub sliver : ℕ → Fraction
+sliver d = over (pos 1) d
+
+sliver-pos : (d : ℕ) → whole (pos 0) <ᶠ sliver d
+sliver-pos d = record { lt = go d }
+  where
+    go : (d : ℕ) → (pos 0 *ℤ pos d) <ℤ (pos 1 *ℤ pos 1)
+    go d = omega (arith, ints)
+
+pub far_for : Fraction → ℕ → ℕ
+far_for x d = unsigned_abs x.num + 2 * unsigned_abs x.num + enough_for x (sliver d) + enough_for (abs_f x +ᶠ abs_f x) (sliver (2 * d))
+
+pub record AtStep (x : Fraction) (sl sh cl ch : ℤ) (d m : ℕ) : Type 0 where
+  s : Fraction
+  c : Fraction
+  s_den : 0 < s.den
+  c_den : 0 < c.den
+  s_within : LiesWithin sl sh s
+  c_within : LiesWithin cl ch c
+  sine : IsNear (sine_sum (x +ᶠ x) m) (s *ᶠ c +ᶠ c *ᶠ s) (whole (pos 11) *ᶠ sliver d)
+  cosine : IsNear (cosine_sum (x +ᶠ x) m) (c *ᶠ c -ᶠ s *ᶠ s) (whole (pos 11) *ᶠ sliver d)
+
+near_wider : (a b e f : Fraction) → 0 < a.den → 0 < b.den → 0 < e.den → IsNear a b e → e ≤ᶠ f → IsNear a b f
+near_wider a b e f pa pb pe n h = record {
+  above = le_f_trans a (b +ᶠ e) (b +ᶠ f) (mul-pos pb pe) n.above (le_f_add b b e f (le_f_refl b) h);
+  below = le_f_trans b (a +ᶠ e) (a +ᶠ f) (mul-pos pa pe) n.below (le_f_add a a e f (le_f_refl a) h);
+}
+
+half_sliver : (d : ℕ) (t : Fraction) → t ≤ᶠ sliver (2 * d) → (whole (pos 2) *ᶠ t) ≤ᶠ sliver d
+half_sliver d t h = record { le = go t.num t.den d h.le }
+  where
+    go : (n : ℤ) (k d : ℕ) → (n *ℤ pos (2 * d)) ≤ℤ (pos 1 *ℤ pos k) → (pos 2 *ℤ n *ℤ pos d) ≤ℤ (pos 1 *ℤ pos (1 * k))
+    go n k d h =
+        let i : pos 2 *ℤ n *ℤ pos d ≡ n *ℤ pos d +ℤ n *ℤ pos d = ap (λ z. z *ℤ pos d) (two-mul_z n) ∙ add-mul_z n n (pos d) in
+        omega (arith, ints, i)
+
+pub at_step : (x : Fraction) (sl sh cl ch : ℤ) (d m : ℕ) → IsFraction x → 0 < d → sl ≤ℤ sh → cl ≤ℤ ch → EndsAtMost sl sh (2 * 10 ^ 18) → EndsAtMost cl ch (2 * 10 ^ 18)
+    → HasSine sl sh x → HasCosine cl ch x → far_for x d ≤ m → AtStep x sl sh cl ch d m
+unfolding far_for
+at_step x sl sh cl ch d m px some so co se ce hs hc far =
+    let e = sliver d in
+    let pd = px.positive in
+    let two = abs_f x +ᶠ abs_f x in
+    let long = long_from x m px (omega arith) in
+    let u : 0 < 10 ^ 18 = lit< tt in
+    let odd = vanishing_from x e pd (sliver-pos d) (2 * m + 3) (omega arith) in
+    let even = vanishing_from x e pd (sliver-pos d) (2 * m + 2) (omega arith) in
+    let S = sine_sum x m in
+    let C = cosine_sum x m in
+    let ps = sine_sum-den x m pd in
+    let pc = cosine_sum-den x m pd in
+    let t3 = term (abs_f x) (2 * m + 3) in
+    let t2 = term (abs_f x) (2 * m + 2) in
+    let d3 = term-den (abs_f x) (2 * m + 3) pd in
+    let d2 = term-den (abs_f x) (2 * m + 2) pd in
+    let s_low = le_f_trans (units sl) (S +ᶠ t3) (S +ᶠ e) (mul-pos ps d3) (sine_sum_at_least x (units sl) m px u long hs.at_least) (le_f_add S S t3 e (le_f_refl S) odd) in
+    let s_high = le_f_trans S (units sh +ᶠ t3) (units sh +ᶠ e) (mul-pos u d3) (sine_sum_at_most x (units sh) m px u long hs.at_most) (le_f_add (units sh) (units sh) t3 e (le_f_refl (units sh)) odd) in
+    let c_low = le_f_trans (units cl) (C +ᶠ t2) (C +ᶠ e) (mul-pos pc d2) (cosine_sum_at_least x (units cl) m px u long hc.at_least) (le_f_add C C t2 e (le_f_refl C) even) in
+    let c_high = le_f_trans C (units ch +ᶠ t2) (units ch +ᶠ e) (mul-pos u d2) (cosine_sum_at_most x (units ch) m px u long hc.at_most) (le_f_add (units ch) (units ch) t2 e (le_f_refl (units ch)) even) in
+    let s = clamp sl sh S e so ps (omega (arith, ints)) s_low s_high in
+    let c = clamp cl ch C e co pc (omega (arith, ints)) c_low c_high in
+    let close : AreClose S C s.value c.value e = record {
+      s_den = ps;
+      c_den = pc;
+      p_den = s.den;
+      q_den = c.den;
+      e_den = some;
+      sine = s.near;
+      cosine = c.near;
+      p_high = high_two sl sh s.value se s.within;
+      p_low = low_two sl sh s.value se s.within;
+      q_high = high_two cl ch c.value ce c.within;
+      q_low = low_two cl ch c.value ce c.within;
+      small = record { le = small d some };
+    } in
+    let left = term two (2 * m + 2) in
+    let left_den = term-den two (2 * m + 2) (mul-pos pd pd) in
+    let left_small = half_sliver d left (vanishing_from two (sliver (2 * d)) (mul-pos pd pd) (sliver-pos (2 * d)) (2 * m + 2) (omega arith)) in
+    let room : two ≤ᶠ whole (pos (m + 1)) = record { le = fits (unsigned_abs x.num) x.den m pd (omega arith) } in
+    let T = sine_sum (x +ᶠ x) m in
+    let V = cosine_sum (x +ᶠ x) m in
+    let pt = sine_sum-den (x +ᶠ x) m (mul-pos pd pd) in
+    let pv = cosine_sum-den (x +ᶠ x) m (mul-pos pd pd) in
+    let sn = near_wider T (S *ᶠ C +ᶠ C *ᶠ S) (whole (pos 2) *ᶠ left) e pt (mul-pos (mul-pos ps pc) (mul-pos pc ps)) (mul-pos (omega arith) left_den) (sine_addition x x m px px room) left_small in
+    let cn = near_wider V (C *ᶠ C -ᶠ S *ᶠ S) (whole (pos 2) *ᶠ left) e pv (mul-pos (mul-pos pc pc) (mul-pos ps ps)) (mul-pos (omega arith) left_den) (cosine_addition x x m px px room) left_small in
+    record {
+      s = s.value;
+      c = c.value;
+      s_den = s.den;
+      c_den = c.den;
+      s_within = s.within;
+      c_within = c.within;
+      sine = sine_of_twice S C s.value c.value e T pt close sn;
+      cosine = cosine_of_twice S C s.value c.value e V pv close cn;
+    }
+  where
+    small : (d : ℕ) → 0 < d → (pos 1 *ℤ pos 1) ≤ℤ (pos 1 *ℤ pos d)
+    small d h = omega (arith, ints)
+
+    fits : (a q m : ℕ) → 0 < q → 2 * a ≤ m → ((pos a *ℤ pos q +ℤ pos a *ℤ pos q) *ℤ pos 1) ≤ℤ (pos (m + 1) *ℤ pos (q * q))
+    fits a q m some h = omega (arith, ints, mul-le-mul_right q h, mul-le-mul (let i : m ≤ m + 1 = omega arith in i) (mul-le-mul_right q some))
+
+eleven_slivers : (e : Fraction) → whole (pos 0) <ᶠ e → (whole (pos 11) *ᶠ sliver (11 * e.den)) ≤ᶠ e
+eleven_slivers e h = record { le = go e.num e.den (omega (arith, ints, h.lt)) }
+  where
+    go : (n : ℤ) (k : ℕ) → pos 1 ≤ℤ n → (pos 11 *ℤ pos 1 *ℤ pos k) ≤ℤ (n *ℤ pos (1 * (11 * k)))
+    go n k h = omega (arith, ints, le-mul_z (pos 1) n (11 * k) h)
+
+sliver-den : (e : Fraction) → IsFraction e → 0 < 1 * (11 * e.den)
+sliver-den e pe = let p = pe.positive in omega arith
+
+pub has_sine_twice : (x : Fraction) (sl sh cl ch lo hi : ℤ) → IsFraction x → sl ≤ℤ sh → cl ≤ℤ ch → EndsAtMost sl sh (2 * 10 ^ 18) → EndsAtMost cl ch (2 * 10 ^ 18)
+    → HasSine sl sh x → HasCosine cl ch x
+    → ((s c : Fraction) → LiesWithin sl sh s → LiesWithin cl ch c → LiesWithin lo hi (s *ᶠ c +ᶠ c *ᶠ s)) → HasSine lo hi (x +ᶠ x)
+has_sine_twice x sl sh cl ch lo hi px so co se ce hs hc contains = record {
+  at_least = sine_at_least_in_the_end (x +ᶠ x) (units lo) (record { positive = mul-pos px.positive px.positive }) (lit< tt) (record {
+    from = λ e pe some. (
+      far_for x (11 * e.den),
+      λ m l.
+          let st = at_step x sl sh cl ch (11 * e.den) m px (mul-pos (omega arith) pe.positive) so co se ce hs hc l in
+          let p = st.s *ᶠ st.c +ᶠ st.c *ᶠ st.s in
+          let d = mul-pos (mul-pos st.s_den st.c_den) (mul-pos st.c_den st.s_den) in
+          let t = sine_sum (x +ᶠ x) m in
+          let f = whole (pos 11) *ᶠ sliver (11 * e.den) in
+          le_f_trans (units lo) p (t +ᶠ e) d (contains st.s st.c st.s_within st.c_within).from
+          (le_f_trans p (t +ᶠ f) (t +ᶠ e) (mul-pos (sine_sum-den (x +ᶠ x) m (mul-pos px.positive px.positive)) (sliver-den e pe)) st.sine.below
+          (le_f_add t t f e (le_f_refl t) (eleven_slivers e some))),
+    );
+  });
+  at_most = sine_at_most_in_the_end (x +ᶠ x) (units hi) (record { positive = mul-pos px.positive px.positive }) (lit< tt) (record {
+    from = λ e pe some. (
+      far_for x (11 * e.den),
+      λ m l.
+          let st = at_step x sl sh cl ch (11 * e.den) m px (mul-pos (omega arith) pe.positive) so co se ce hs hc l in
+          let p = st.s *ᶠ st.c +ᶠ st.c *ᶠ st.s in
+          let d = mul-pos (mul-pos st.s_den st.c_den) (mul-pos st.c_den st.s_den) in
+          let t = sine_sum (x +ᶠ x) m in
+          let f = whole (pos 11) *ᶠ sliver (11 * e.den) in
+          le_f_trans t (p +ᶠ f) (units hi +ᶠ e) (mul-pos d (sliver-den e pe)) st.sine.above
+          (le_f_add p (units hi) f e (contains st.s st.c st.s_within st.c_within).to (eleven_slivers e some)),
+    );
+  });
+}
+
+pub has_cosine_twice : (x : Fraction) (sl sh cl ch lo hi : ℤ) → IsFraction x → sl ≤ℤ sh → cl ≤ℤ ch → EndsAtMost sl sh (2 * 10 ^ 18) → EndsAtMost cl ch (2 * 10 ^ 18)
+    → HasSine sl sh x → HasCosine cl ch x
+    → ((s c : Fraction) → LiesWithin sl sh s → LiesWithin cl ch c → LiesWithin lo hi (c *ᶠ c -ᶠ s *ᶠ s)) → HasCosine lo hi (x +ᶠ x)
+has_cosine_twice x sl sh cl ch lo hi px so co se ce hs hc contains = record {
+  at_least = cosine_at_least_in_the_end (x +ᶠ x) (units lo) (record { positive = mul-pos px.positive px.positive }) (lit< tt) (record {
+    from = λ e pe some. (
+      far_for x (11 * e.den),
+      λ m l.
+          let st = at_step x sl sh cl ch (11 * e.den) m px (mul-pos (omega arith) pe.positive) so co se ce hs hc l in
+          let p = st.c *ᶠ st.c -ᶠ st.s *ᶠ st.s in
+          let d = mul-pos (mul-pos st.c_den st.c_den) (mul-pos st.s_den st.s_den) in
+          let t = cosine_sum (x +ᶠ x) m in
+          let f = whole (pos 11) *ᶠ sliver (11 * e.den) in
+          le_f_trans (units lo) p (t +ᶠ e) d (contains st.s st.c st.s_within st.c_within).from
+          (le_f_trans p (t +ᶠ f) (t +ᶠ e) (mul-pos (cosine_sum-den (x +ᶠ x) m (mul-pos px.positive px.positive)) (sliver-den e pe)) st.cosine.below
+          (le_f_add t t f e (le_f_refl t) (eleven_slivers e some))),
+    );
+  });
+  at_most = cosine_at_most_in_the_end (x +ᶠ x) (units hi) (record { positive = mul-pos px.positive px.positive }) (lit< tt) (record {
+    from = λ e pe some. (
+      far_for x (11 * e.den),
+      λ m l.
+          let st = at_step x sl sh cl ch (11 * e.den) m px (mul-pos (omega arith) pe.positive) so co se ce hs hc l in
+          let p = st.c *ᶠ st.c -ᶠ st.s *ᶠ st.s in
+          let d = mul-pos (mul-pos st.c_den st.c_den) (mul-pos st.s_den st.s_den) in
+          let t = cosine_sum (x +ᶠ x) m in
+          let f = whole (pos 11) *ᶠ sliver (11 * e.den) in
+          le_f_trans t (p +ᶠ f) (units hi +ᶠ e) (mul-pos d (sliver-den e pe)) st.cosine.above
+          (le_f_add p (units hi) f e (contains st.s st.c st.s_within st.c_within).to (eleven_slivers e some)),
+    );
+  });
+}
+
+-- at whole units
+twice_units : (z : ℤ) → (units z +ᶠ units z) ≈ᶠ units (z +ℤ z)
+twice_units z = record { same = go z (pos (10 ^ 18)) }
+  where
+    go : (z w : ℤ) → (z *ℤ w +ℤ z *ℤ w) *ℤ w ≡ (z +ℤ z) *ℤ (w *ℤ w)
+    go z w = simp ring
+
+pub has_sine_doubled : (z : ℤ) (sl sh cl ch lo hi : ℤ) → sl ≤ℤ sh → cl ≤ℤ ch → EndsAtMost sl sh (2 * 10 ^ 18) → EndsAtMost cl ch (2 * 10 ^ 18)
+    → HasSine sl sh (units z) → HasCosine cl ch (units z)
+    → ((s c : Fraction) → LiesWithin sl sh s → LiesWithin cl ch c → LiesWithin lo hi (s *ᶠ c +ᶠ c *ᶠ s)) → HasSine lo hi (units (z +ℤ z))
+has_sine_doubled z sl sh cl ch lo hi so co se ce hs hc contains =
+    has_sine_same lo hi (units z +ᶠ units z) (units (z +ℤ z)) (record { positive = lit< tt }) (record { positive = lit< tt }) (twice_units z)
+    (has_sine_twice (units z) sl sh cl ch lo hi (record { positive = lit< tt }) so co se ce hs hc contains)
+
+pub has_cosine_doubled : (z : ℤ) (sl sh cl ch lo hi : ℤ) → sl ≤ℤ sh → cl ≤ℤ ch → EndsAtMost sl sh (2 * 10 ^ 18) → EndsAtMost cl ch (2 * 10 ^ 18)
+    → HasSine sl sh (units z) → HasCosine cl ch (units z)
+    → ((s c : Fraction) → LiesWithin sl sh s → LiesWithin cl ch c → LiesWithin lo hi (c *ᶠ c -ᶠ s *ᶠ s)) → HasCosine lo hi (units (z +ℤ z))
+has_cosine_doubled z sl sh cl ch lo hi so co se ce hs hc contains =
+    has_cosine_same lo hi (units z +ᶠ units z) (units (z +ℤ z)) (record { positive = lit< tt }) (record { positive = lit< tt }) (twice_units z)
+    (has_cosine_twice (units z) sl sh cl ch lo hi (record { positive = lit< tt }) so co se ce hs hc contains)
+
+-- a product the other way round
+pub product_turned : (lo hi : ℤ) (s c : Fraction) → LiesWithin lo hi (s *ᶠ c) → LiesWithin lo hi (c *ᶠ s)
+product_turned lo hi s c h = subst (λ (f : Fraction). LiesWithin lo hi f) (λ i. over (*ℤ_comm s.num c.num i) (mul_comm s.den c.den i)) h
