@@ -43,10 +43,10 @@ told-size : (size : ℕ) (power : ℤ) → ((m : ℕ) × IsSizeTimesTen size pow
 told-size size (pos k) = inl (size * 10 ^ k, refl)
 told-size size (negsuc k) =
     elim (cases_Bool (eqb (size % 10 ^ suc k) 0)) [
-      inl y ↦
-        let whole : size % 10 ^ suc k ≡ 0 = grind (arith, nat_tests) in
-        inl (size / 10 ^ suc k, lowered_whole size (10 ^ suc k) (power_some (suc k)) whole)
-    | inr n ↦ inr (λ m is. lowered_part size (10 ^ suc k) m (power_some (suc k)) (λ e. part size (10 ^ suc k) n e) is)
+      | inl y ↦
+          let whole : size % 10 ^ suc k ≡ 0 = grind (arith, nat_tests) in
+          inl (size / 10 ^ suc k, lowered_whole size (10 ^ suc k) (power_some (suc k)) whole)
+      | inr n ↦ inr (λ m is. lowered_part size (10 ^ suc k) m (power_some (suc k)) (λ e. part size (10 ^ suc k) n e) is)
     ]
   where
     part : (size d : ℕ) → eqb (size % d) 0 ≡ false → size % d ≡ 0 → ⊥
@@ -56,17 +56,17 @@ pub told-units : (d : Dec) → ((u : ℤ) × IsUnits18 d u) ⊎ ((u : ℤ) → I
 told-units d = by (told-size (unsigned_abs d.digits) (d.tens +ℤ pos 18))
   where
     by : ((m : ℕ) × IsSizeTimesTen (unsigned_abs d.digits) (d.tens +ℤ pos 18) m) ⊎ ((m : ℕ) → IsSizeTimesTen (unsigned_abs d.digits) (d.tens +ℤ pos 18) m → ⊥)
-      → ((u : ℤ) × IsUnits18 d u) ⊎ ((u : ℤ) → IsUnits18 d u → ⊥)
+        → ((u : ℤ) × IsUnits18 d u) ⊎ ((u : ℤ) → IsUnits18 d u → ⊥)
     by (inr none) = inr (λ u is. none (unsigned_abs u) (size_of_times d.digits (d.tens +ℤ pos 18) u is.value))
     by (inl (m, is)) = below (cases_lt m (10 ^ 38))
       where
         below : (m < 10 ^ 38) ⊎ (10 ^ 38 ≤ m) → ((u : ℤ) × IsUnits18 d u) ⊎ ((u : ℤ) → IsUnits18 d u → ⊥)
         below (inl l) =
-          let size = size_with_sign d.digits m in
-          inl (with_sign_of d.digits m, record { value = with_sign d.digits (d.tens +ℤ pos 18) m is; below = rw size l })
+            let size = size_with_sign d.digits m in
+            inl (with_sign_of d.digits m, record { value = with_sign d.digits (d.tens +ℤ pos 18) m is; below = rw size l })
         below (inr g) = inr (λ u is_u.
-          let same = one-size (unsigned_abs d.digits) (d.tens +ℤ pos 18) m (unsigned_abs u) is (size_of_times d.digits (d.tens +ℤ pos 18) u is_u.value) in
-          absurd (omega (arith, g, same, is_u.below)))
+            let same = one-size (unsigned_abs d.digits) (d.tens +ℤ pos 18) m (unsigned_abs u) is (size_of_times d.digits (d.tens +ℤ pos 18) u is_u.value) in
+            absurd (omega (arith, g, same, is_u.below)))
 
 -- whether a decimal is a count of at most 1,000
 pub told-count : (d : Dec) → ((n : ℕ) × IsWhole d (pos n) × (n ≤ 1000)) ⊎ ((n : ℕ) → IsWhole d (pos n) → n ≤ 1000 → ⊥)
@@ -75,11 +75,12 @@ told-count d = by (told-size (unsigned_abs d.digits) d.tens)
     signed : (u : ℤ) → IsTimesTen d.digits d.tens u → ((n : ℕ) × IsWhole d (pos n) × (n ≤ 1000)) ⊎ ((n : ℕ) → IsWhole d (pos n) → n ≤ 1000 → ⊥)
     signed (negsuc k) is = inr (λ n w few. let same = one-times d.digits d.tens (negsuc k) (pos n) is w.value in absurd cc)
     signed (pos k) is =
-      elim (cases_lt 1000 k) [
-        inl more ↦ inr (λ n w few. let same = same-pos k n (one-times d.digits d.tens (pos k) (pos n) is w.value) in absurd (omega arith))
-      | inr few ↦ inl (k, record { value = is; fits = small_fits k few }, few)
-      ]
+        elim (cases_lt 1000 k) [
+          | inl more ↦ inr (λ n w few. let same = same-pos k n (one-times d.digits d.tens (pos k) (pos n) is w.value) in absurd (omega arith))
+          | inr few ↦ inl (k, record { value = is; fits = small_fits k few }, few)
+        ]
+
     by : ((m : ℕ) × IsSizeTimesTen (unsigned_abs d.digits) d.tens m) ⊎ ((m : ℕ) → IsSizeTimesTen (unsigned_abs d.digits) d.tens m → ⊥)
-      → ((n : ℕ) × IsWhole d (pos n) × (n ≤ 1000)) ⊎ ((n : ℕ) → IsWhole d (pos n) → n ≤ 1000 → ⊥)
+        → ((n : ℕ) × IsWhole d (pos n) × (n ≤ 1000)) ⊎ ((n : ℕ) → IsWhole d (pos n) → n ≤ 1000 → ⊥)
     by (inr none) = inr (λ n w few. none n (size_of_times d.digits d.tens (pos n) w.value))
     by (inl (m, is)) = signed (with_sign_of d.digits m) (with_sign d.digits d.tens m is)

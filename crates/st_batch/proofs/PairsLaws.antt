@@ -29,8 +29,8 @@ splits-step numbers left rest pairs c d p e only splits = λ whole up.
     by : {whole : List LeapPair} (more : List LeapPair) → PairUp (c ∷ d ∷ rest) more → whole ≡ pairs ++ more → (m : List LeapPair) × PairUp rest m × (whole ≡ (pairs ++ p ∷ []) ++ m)
     by [] up same = absurd up
     by (q ∷ more) up same =
-      let first : p ≡ q = some-same p q (only q up.0) in
-      (more, up.1, same ∙ ap (λ (x : LeapPair). pairs ++ x ∷ more) (sym first) ∙ sym (append_assoc pairs (p ∷ []) more))
+        let first : p ≡ q = some-same p q (only q up.0) in
+        (more, up.1, same ∙ ap (λ (x : LeapPair). pairs ++ x ∷ more) (sym first) ∙ sym (append_assoc pairs (p ∷ []) more))
 
 -- no pair, no pairs
 pub splits-none : (numbers left rest : List Dec) (pairs : List LeapPair) (c d : Dec) → left ≡ c ∷ d ∷ rest → ((q : LeapPair) → IsPair c d q → None ≡ Some q) → Splits numbers left pairs

@@ -251,15 +251,15 @@ file-output Fault words files name time bytes asked has (inr few) = by (kernel.s
     by : ((r : Result (List Assignment) TextFault) × Reads bytes r × (r ≢ Err text_fault.OutOfMemory)) → SomeOutput Fault words files
     by (Err text_fault.OutOfMemory, reads, not) = absurd (not refl)
     by (Err (text_fault.At n cause), reads, not) =
-      setup-output Fault words files name time (line_fault.KernelText n cause) asked (record { bytes = bytes; has = has; few = few; reads = reads })
+        setup-output Fault words files name time (line_fault.KernelText n cause) asked (record { bytes = bytes; has = has; few = few; reads = reads })
     by (Ok assignments, reads, not) =
-      elim (told-table assignments) [
-        inl t ↦
-          let a = may-answer t.0 time in
-          line-output Fault words files name time t.0 a.0 asked (record { assignments = assignments; kernel = record { bytes = bytes; has = has; few = few; reads = reads }; gives = t.1 }) a.1
-      | inr none ↦
-          setup-output Fault words files name time line_fault.NotBuilt asked (record { assignments = assignments; kernel = record { bytes = bytes; has = has; few = few; reads = reads }; none = λ t g. none (t, g) })
-      ]
+        elim (told-table assignments) [
+          | inl t ↦
+              let a = may-answer t.0 time in
+              line-output Fault words files name time t.0 a.0 asked (record { assignments = assignments; kernel = record { bytes = bytes; has = has; few = few; reads = reads }; gives = t.1 }) a.1
+          | inr none ↦
+              setup-output Fault words files name time line_fault.NotBuilt asked (record { assignments = assignments; kernel = record { bytes = bytes; has = has; few = few; reads = reads }; none = λ t g. none (t, g) })
+        ]
 
 name-output : (Fault : Type 0) (words : List (List ℕ)) (files : Entries) (name time : List ℕ) → AskFor words name time → SomeOutput Fault words files
 name-output Fault words files name time asked = by (bytes_of name files) refl

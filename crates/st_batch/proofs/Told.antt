@@ -18,10 +18,10 @@ Told A = A ⊎ (A → ⊥)
 told-pair : (c d : Dec) → Told ((p : LeapPair) × IsPair c d p)
 told-pair c d =
     elim (told-count c) [
-      inr none ↦ inr (λ p. none p.0.count p.1.whole p.1.most)
-    | inl n ↦ elim (told-units d) [
-        inr none ↦ inr (λ p. none p.0.from p.1.units)
-      | inl u ↦ inl (record { count = n.0; from = u.0 }, record { whole = n.1; most = n.2; units = u.1 })
+      | inr none ↦ inr (λ p. none p.0.count p.1.whole p.1.most)
+      | inl n ↦ elim (told-units d) [
+        | inr none ↦ inr (λ p. none p.0.from p.1.units)
+        | inl u ↦ inl (record { count = n.0; from = u.0 }, record { whole = n.1; most = n.2; units = u.1 })
       ]
     ]
 
@@ -37,6 +37,7 @@ told-pairs (c ∷ d ∷ numbers) = by (told-pair c d) (told-pairs numbers)
     first : (pairs : List LeapPair) → PairUp (c ∷ d ∷ numbers) pairs → ((p : LeapPair) × IsPair c d p) × ((more : List LeapPair) × PairUp numbers more)
     first [] up = absurd up
     first (p ∷ more) up = ((p, up.0), (more, up.1))
+
     by : Told ((p : LeapPair) × IsPair c d p) → Told ((more : List LeapPair) × PairUp numbers more) → Told ((pairs : List LeapPair) × PairUp (c ∷ d ∷ numbers) pairs)
     by (inr none) rest = inr (λ p. none (first p.0 p.1).0)
     by (inl p) (inr none) = inr (λ q. none (first q.0 q.1).1)
@@ -48,16 +49,16 @@ told-numbers numbers = by (told-pairs numbers)
     by : Told ((pairs : List LeapPair) × PairUp numbers pairs) → Told ((table : List LeapPair) × IsTableOf numbers table)
     by (inr none) = inr (λ t. none (t.0, t.1.pairs))
     by (inl p) =
-      elim (cases_Bool (is_table p.0)) [
-        inl y ↦ inl (p.0, record { pairs = p.1; is_table = passes-table p.0 y })
-      | inr n ↦ inr (λ t. fails-table numbers p.0 t.0 p.1 n t.1)
-      ]
+        elim (cases_Bool (is_table p.0)) [
+          | inl y ↦ inl (p.0, record { pairs = p.1; is_table = passes-table p.0 y })
+          | inr n ↦ inr (λ t. fails-table numbers p.0 t.0 p.1 n t.1)
+        ]
 
 pub told-table : (assignments : List Assignment) → Told ((table : List LeapPair) × GiveTable assignments table)
 told-table assignments = by (are_numbers (values_of (codes "DELTET/DELTA_AT") assignments)) refl (told-numbers (numbers_in (values_of (codes "DELTET/DELTA_AT") assignments)))
   where
     by : (b : Bool) → are_numbers (values_of (codes "DELTET/DELTA_AT") assignments) ≡ b
-      → Told ((table : List LeapPair) × IsTableOf (numbers_in (values_of (codes "DELTET/DELTA_AT") assignments)) table) → Told ((table : List LeapPair) × GiveTable assignments table)
+        → Told ((table : List LeapPair) × IsTableOf (numbers_in (values_of (codes "DELTET/DELTA_AT") assignments)) table) → Told ((table : List LeapPair) × GiveTable assignments table)
     by false e t = inr (λ g. text-given assignments g.0 e g.1)
     by true e (inl t) = inl (t.0, given-by assignments (numbers_in (values_of (codes "DELTET/DELTA_AT") assignments)) t.0 refl e t.1)
     by true e (inr none) = inr (λ g. not-given assignments (numbers_in (values_of (codes "DELTET/DELTA_AT") assignments)) g.0 refl (λ t is. none (t, is)) g.1)

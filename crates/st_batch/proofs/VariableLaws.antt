@@ -36,7 +36,7 @@ since-last (y ∷ a) x =
     rw (list_any-append is_set a (x ∷ [])) (by (list_any is_set a) (is_set x) (since_last_set (a ++ x ∷ [])) (since_last_set a) (since-last a x))
   where
     by : (m n : Bool) (whole front : List Assignment) → whole ≡ cond n (x ∷ []) (front ++ x ∷ [])
-      → cond (m || (n || false)) whole (y ∷ (a ++ x ∷ [])) ≡ cond n (x ∷ []) (cond m front (y ∷ a) ++ x ∷ [])
+        → cond (m || (n || false)) whole (y ∷ (a ++ x ∷ [])) ≡ cond n (x ∷ []) (cond m front (y ∷ a) ++ x ∷ [])
     by true true whole front e = e
     by true false whole front e = e
     by false true whole front e = e
@@ -60,7 +60,7 @@ values-last name front a =
     ∙ by (bytes_eq a.name name)
   where
     by : (b : Bool) → flat_map (λ x. x.values) (since_last_set (filter (λ x. bytes_eq x.name name) front ++ cond b (a ∷ []) []))
-      ≡ cond b (cond (is_set a) a.values (values_of name front ++ a.values)) (values_of name front)
+        ≡ cond b (cond (is_set a) a.values (values_of name front ++ a.values)) (values_of name front)
     by true = added (filter (λ x. bytes_eq x.name name) front) a (is_set a) refl
     by false = ap (λ (l : List Assignment). flat_map (λ x. x.values) (since_last_set l)) (append-nil (filter (λ x. bytes_eq x.name name) front))
 
@@ -69,12 +69,12 @@ pub list-step : (name : List ℕ) (assignments : List Assignment) (i : ℕ) (a :
     → list ≡ numbers_in (values_of name (take i assignments)) → list_after name a list ≡ numbers_in (values_of name (take (i + 1) assignments))
 list-step name assignments i a list l is e =
     let more : take (i + 1) assignments ≡ take i assignments ++ a ∷ [] =
-      take_more assignments i a l ∙ ap (λ (x : Assignment). take i assignments ++ x ∷ []) (sym is) in
+    take_more assignments i a l ∙ ap (λ (x : Assignment). take i assignments ++ x ∷ []) (sym is) in
     let last = ap (λ (t : List Assignment). numbers_in (values_of name t)) more ∙ ap numbers_in (values-last name (take i assignments) a) in
     by (bytes_eq a.name name) (is_set a) e ∙ sym last
   where
     by : (b c : Bool) → list ≡ numbers_in (values_of name (take i assignments))
-      → cond b (cond c (numbers_in a.values) (list ++ numbers_in a.values)) list
+        → cond b (cond c (numbers_in a.values) (list ++ numbers_in a.values)) list
         ≡ numbers_in (cond b (cond c a.values (values_of name (take i assignments) ++ a.values)) (values_of name (take i assignments)))
     by true true h = refl
     by true false h = ap (λ (l : List Dec). l ++ numbers_in a.values) h ∙ sym (numbers_in-append (values_of name (take i assignments)) a.values)
@@ -84,12 +84,12 @@ pub all-step : (name : List ℕ) (assignments : List Assignment) (i : ℕ) (a : 
     → all ≡ are_numbers (values_of name (take i assignments)) → all_after name a all ≡ are_numbers (values_of name (take (i + 1) assignments))
 all-step name assignments i a all l is e =
     let more : take (i + 1) assignments ≡ take i assignments ++ a ∷ [] =
-      take_more assignments i a l ∙ ap (λ (x : Assignment). take i assignments ++ x ∷ []) (sym is) in
+    take_more assignments i a l ∙ ap (λ (x : Assignment). take i assignments ++ x ∷ []) (sym is) in
     let last = ap (λ (t : List Assignment). are_numbers (values_of name t)) more ∙ ap are_numbers (values-last name (take i assignments) a) in
     by (bytes_eq a.name name) (is_set a) e ∙ sym last
   where
     by : (b c : Bool) → all ≡ are_numbers (values_of name (take i assignments))
-      → cond b (cond c (are_numbers a.values) (all && are_numbers a.values)) all
+        → cond b (cond c (are_numbers a.values) (all && are_numbers a.values)) all
         ≡ are_numbers (cond b (cond c a.values (values_of name (take i assignments) ++ a.values)) (values_of name (take i assignments)))
     by true true h = refl
     by true false h = ap (λ (x : Bool). x && are_numbers a.values) h ∙ sym (are_numbers-append (values_of name (take i assignments)) a.values)

@@ -22,7 +22,11 @@ pub enum SetupFault {
 }
 
 /// The table of leap seconds in the setup file of this name. No file is open afterwards.
-pub fn load_setup<F: Files>(alloc: Global, name: &[u8], files: &mut F) -> Result<Vec<LeapPair>, SetupFault>
+pub fn load_setup<F: Files>(
+    alloc: Global,
+    name: &[u8],
+    files: &mut F,
+) -> Result<Vec<LeapPair>, SetupFault>
     ensures ok { IfOk result (λ table. WhereKnown (F.map files.old)
         (λ es. SetupGives (Rose (F.faults files.old) (F.faults files.new)) name.now es (Ok table.items))) }
     ensures err { IfErr result (λ fault. WhereKnown (F.map files.old)

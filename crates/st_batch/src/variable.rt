@@ -18,7 +18,11 @@ pub struct Numbers {
 }
 
 /// The numbers among the values of the variable of this name, by the assignments in their order.
-pub fn numbers_of(alloc: Global, name: &[u8], assignments: &[Assignment]) -> Result<Numbers, OutOfMemory>
+pub fn numbers_of(
+    alloc: Global,
+    name: &[u8],
+    assignments: &[Assignment],
+) -> Result<Numbers, OutOfMemory>
     ensures list { IfOk result (λ numbers. numbers.list.items ≡ numbers_in (values_of name.now assignments.now)) }
     ensures all { IfOk result (λ numbers. numbers.all ≡ are_numbers (values_of name.now assignments.now)) }
 {

@@ -5,7 +5,7 @@ use Rattle.st_batch.proofs.leap_table.pairs_of.Given as goal
 abbrev pub invariant-loop-count : goal.invariant-loop-count
 invariant-loop-count l = record {
   joins : Joins l.numbers l.left l.pairs.items;
-  splits : Splits l.numbers l.left l.pairs.items
+  splits : Splits l.numbers l.left l.pairs.items;
 }
 
 abbrev pub decreases-loop-count : goal.decreases-loop-count

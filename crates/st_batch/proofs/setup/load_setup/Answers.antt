@@ -9,11 +9,11 @@ returns-in-Ok-clause-ok g c =
     let Fault = Rose (g.F.Files.faults c.args.files.now) (g.F.Files.faults c.read_file.new.files) in
     let P : List ℕ → Type 0 = λ bytes. IfOk c.table_in.result (λ table. BytesGive bytes (Ok table.items)) in
     file-gives (λ table. table.items) Fault (g.F.Files.map c.args.files.now) c.args.name.now c.in-Ok.bytes.items c.table_in.result c.in-Ok.ensures.ok c.in-Ok.ensures.few
-      (subst P c.as_slice.ensures.value c.table_in.ensures.ok)
+    (subst P c.as_slice.ensures.value c.table_in.ensures.ok)
 
 pub returns-in-Ok-clause-err : goal.returns-in-Ok-clause-err
 returns-in-Ok-clause-err g c =
     let Fault = Rose (g.F.Files.faults c.args.files.now) (g.F.Files.faults c.read_file.new.files) in
     let P : List ℕ → Type 0 = λ bytes. IfErr c.table_in.result (BytesRefuse bytes) in
     file-refuses Fault (g.F.Files.map c.args.files.now) c.args.name.now c.in-Ok.bytes.items c.table_in.result c.in-Ok.ensures.ok c.in-Ok.ensures.few
-      (subst P c.as_slice.ensures.value c.table_in.ensures.err)
+    (subst P c.as_slice.ensures.value c.table_in.ensures.err)

@@ -14,7 +14,7 @@ pub returns-in-Ok-clause-err : goal.returns-in-Ok-clause-err
 returns-in-Ok-clause-err c =
     let P : List Assignment → Type 0 = λ list. (table : List LeapPair) → GiveTable list table → ⊥ in
     table-refused c.args.bytes.now c.in-Ok.assignments c.in-Err-read_table.fault c.refused_table.result c.in-Ok.ensures.reads
-      (λ e. subst P c.as_slice.ensures (c.in-Err-read_table.ensures.not_table (ap Err e))) c.refused_table.ensures
+    (λ e. subst P c.as_slice.ensures (c.in-Err-read_table.ensures.not_table (ap Err e))) c.refused_table.ensures
 
 pub returns-clause-err : goal.returns-clause-err
 returns-clause-err c = text-refused c.args.bytes.now c.in-Err.fault c.refused_text.result c.in-Err.ensures.reads c.refused_text.ensures

@@ -6,5 +6,5 @@ use Rattle.st_batch.proofs.variable.numbers_of.Given as goal
 abbrev pub invariant-loop-assignment : goal.invariant-loop-assignment
 invariant-loop-assignment l = record {
   list : l.numbers.list.items ≡ numbers_in (values_of l.name (take l.assignment-index l.assignments));
-  all : l.numbers.all ≡ are_numbers (values_of l.name (take l.assignment-index l.assignments))
+  all : l.numbers.all ≡ are_numbers (values_of l.name (take l.assignment-index l.assignments));
 }
