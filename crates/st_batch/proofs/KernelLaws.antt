@@ -1,5 +1,5 @@
 -- What the definitions of kernels say: every file has an answer, and one.
-use Rattle.std.proofs.Common.{◌≡◌, ◌≢◌, ℕ, Result, Ok, Err, List, refl, sym, ◌∙◌, subst}
+use Rattle.std.proofs.Common.{◌≡◌, ◌≢◌, ℕ, Result, Ok, Err, List, refl, sym, ◌∙◌}
 use Rattle.st_kernel_text.specs.Fault.{Fault}
 use Rattle.st_kernel_text.specs.File.{Reads, Agree}
 use Rattle.st_kernel_text.specs.LinesMachine.{read_of}

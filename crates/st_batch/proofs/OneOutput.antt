@@ -1,7 +1,6 @@
 -- Without a fault of the files the definitions allow one output.
-use Rattle.std.proofs.Common.{◌≡◌, ℕ, ◌+◌, ◌*◌, ◌<◌, ◌≤◌, ◌⊎◌, inl, inr, Bool, true, false, cond, nat_lt, Option, Some, None, Result, Ok, Err, ℤ, pos, ◌≤ℤ◌, ◌<ℤ◌, ◌+ℤ◌, ◌*ℤ◌, List, [], ◌∷◌, ◌++◌, length, codes, refl, sym, ap, ◌∙◌, subst, arith}
+use Rattle.std.proofs.Common.{◌≡◌, ℕ, ◌≤◌, Option, Some, None, Result, Ok, Err, ℤ, List, [], ◌∷◌, ◌++◌, length, codes, refl, sym, ap, ◌∙◌, subst, arith}
 use Rattle.std.specs.List.{flat_map}
-use Rattle.std.proofs.lemmas.Bool.Decides.{nat_tests}
 use Rattle.std.proofs.lemmas.Int.{ints}
 use Rattle.st_decimal.specs.Fixed.{fixed}
 use Rattle.st_kernel_text.specs.File.{Reads}
@@ -23,11 +22,10 @@ use Rattle.st_batch.specs.declared.status.Status.TheVariants.{Done, SomeRefused,
 use Rattle.st_batch.specs.NumbersMachine.{numbers_in}
 use Rattle.st_batch.specs.Variable.{values_of}
 use Rattle.st_batch.specs.LeapSeconds.{GiveTable, tai_of}
-use Rattle.st_batch.specs.Outcome.{IsTruncated, SpellsSeconds, MayAnswer, RunsTo, line_of, status_of, HoldsKernel, HoldsFault, HoldsTooMuch, SetupGives, AskForNone, Answered, SetupRefused, Allowed}
+use Rattle.st_batch.specs.Outcome.{IsTruncated, MayAnswer, RunsTo, line_of, status_of, HoldsKernel, HoldsFault, HoldsTooMuch, SetupGives, Answered, SetupRefused}
 use Rattle.st_batch.specs.Laws.{OneOutput}
 use Rattle.st_batch.specs.Texts.{refusal_text}
 use Rattle.st_batch.specs.UtcTime.{IsUtcTime}
-use Rattle.st_batch.specs.UtcTimeMachine.{utc_of_text}
 use Rattle.st_batch.specs.Words.{AskFor}
 use Rattle.st_batch.proofs.ScanLaws.{some-same}
 use Rattle.st_batch.proofs.KernelLaws as kernel

@@ -1,7 +1,5 @@
 -- The parts of a run put together: what was prepared is allowed, and what was written is it or its beginning.
-use Rattle.std.proofs.Common.{◌≡◌, ℕ, ◌<◌, ◌≤◌, ◌⊎◌, inl, inr, Bool, true, false, Option, Some, None, Result, Ok, Err, IfOk, IfErr, ◌≢◌, ℤ, pos, negsuc, List, [], ◌∷◌, ◌++◌, length, codes, refl, sym, ap, ◌∙◌, subst, arith}
-use Rattle.std.specs.Prelude.{⊤}
-use Rattle.std.specs.Io.KnownBytes.{Appends}
+use Rattle.std.proofs.Common.{◌≡◌, ℕ, ◌<◌, ◌≤◌, ◌⊎◌, inl, inr, Option, Some, None, Result, Ok, Err, IfOk, IfErr, ◌≢◌, ℤ, pos, negsuc, List, [], ◌∷◌, ◌++◌, length, codes, refl, sym, ◌∙◌, subst, arith}
 use Rattle.std.proofs.KnownBytes.{Appends-nil}
 use Rattle.std.proofs.lemmas.Bool.{cases_lt}
 use Rattle.std.proofs.lemmas.Int.{ints}
@@ -31,7 +29,7 @@ use Rattle.st_batch.specs.declared.status.Status.TheVariants.{Done, SomeRefused,
 use Rattle.st_batch.specs.declared.top.Prepared.{Prepared}
 use Rattle.st_batch.specs.Load.{HasFile}
 use Rattle.st_batch.specs.Outcome.{IsTruncated, MayAnswer, line_of, status_of, SetupGives, AskForNone, Answered, SetupRefused, Allowed, BeginsAllowed, Outcome, WhereTold, WhereKnown}
-use Rattle.st_batch.specs.Prepared.{IsWhole, WordsFit, AnswersLine, IsCut, Delivers}
+use Rattle.st_batch.specs.Prepared.{WordsFit, AnswersLine, IsCut, Delivers}
 use Rattle.st_batch.specs.Setup.{BytesGive, BytesRefuse, RefusesSetup, NamesRefusal, refusal_of_table, refusal_of_text}
 use Rattle.st_batch.specs.Words.{AskFor}
 use Rattle.st_batch.specs.WordsMachine.{job_of}

@@ -1,5 +1,5 @@
 -- Parts that stand at the front of a text are read, and what is read stood there.
-use Rattle.std.proofs.Common.{◌≡◌, ℕ, ◌<◌, ◌≤◌, Bool, true, Option, Some, None, List, [], ◌∷◌, ◌++◌, length, take, drop, inl, inr, eqb, refl, sym, ap, ◌∙◌, arith, length-append, length-take-le, nat_le, option_and_then, ◌&&◌}
+use Rattle.std.proofs.Common.{◌≡◌, ℕ, ◌≤◌, true, Option, Some, None, List, [], ◌∷◌, ◌++◌, length, take, drop, inl, inr, eqb, refl, sym, ap, ◌∙◌, arith, length-append, length-take-le, nat_le, option_and_then, ◌&&◌}
 use Rattle.std.proofs.Math.Seq.{take-append_seam, drop-append_seam}
 use Rattle.std.proofs.lemmas.List.{take-append-drop}
 use Rattle.std.proofs.lemmas.Bool.{cases_Bool}

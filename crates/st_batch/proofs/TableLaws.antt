@@ -1,23 +1,23 @@
 -- The tests of a table of leap seconds, and the numbers among values that spell one.
-use Rattle.std.proofs.Common.{◌≡◌, ℕ, ◌+◌, ◌-◌, ◌*◌, ◌/◌, ◌%◌, ◌<◌, ◌≤◌, Bool, true, false, ◌&&◌, eqb, nat_le, Option, Some, None, Result, Ok, Err, IfOk, ℤ, pos, negsuc, ◌+ℤ◌, ◌-ℤ◌, ◌*ℤ◌, ◌<ℤ◌, ◌≤ℤ◌, int_le, int_lt, List, [], ◌∷◌, ◌++◌, length, codes, refl, sym, ap, ◌∙◌, subst, arith, suc, add-zero, lit<}
-use Rattle.std.proofs.lemmas.Bool.{cases_Bool, false≢true}
+use Rattle.std.proofs.Common.{◌≡◌, ℕ, ◌+◌, ◌-◌, ◌*◌, ◌/◌, ◌%◌, ◌<◌, true, false, ◌&&◌, eqb, nat_le, Result, Ok, Err, IfOk, ℤ, pos, negsuc, ◌+ℤ◌, ◌*ℤ◌, ◌<ℤ◌, int_le, int_lt, List, [], ◌∷◌, length, codes, refl, sym, ap, ◌∙◌, subst, arith, suc, add-zero, lit<}
+use Rattle.std.proofs.lemmas.Bool.{false≢true}
 use Rattle.std.proofs.lemmas.Bool.Decides.{nat_tests}
 use Rattle.std.proofs.Math.Nat.{div-add-mod', mod-lt, zero-mod}
 use Rattle.std.proofs.lemmas.Nat.{mod-mul-add}
 use Rattle.std.proofs.lemmas.Int.{ints, int_rem_euclid_is}
-use Rattle.std.specs.Int.{int_rem_euclid, int_div_euclid}
+use Rattle.std.specs.Int.{int_rem_euclid}
 use Rattle.std.specs.List.{list_all}
 use Rattle.st_dates.specs.AtDate.{moment}
 use Rattle.st_dates.specs.declared.label.TheConstants.{FIRST, LAST}
 use Rattle.st_decimal.specs.declared.number.Dec.{Dec}
-use Rattle.st_decimal.specs.Scaling.{IsTimesTen, IsUnits18, IsWhole}
+use Rattle.st_decimal.specs.Scaling.{IsUnits18, IsWhole}
 use Rattle.st_kernel_text.specs.declared.assignment.Assignment.{Assignment}
 use Rattle.st_kernel_text.specs.declared.value.Value.{Value}
 use Rattle.st_kernel_text.specs.declared.value.Value.TheVariants.{Number, Text}
 use Rattle.st_batch.specs.declared.leap_seconds.LeapPair.{LeapPair}
 use Rattle.st_batch.specs.LeapSeconds.{Rise, IsMidnight, IsInRange, AreInRange, IsLeapTable, SpellPairs, GiveTable}
 use Rattle.st_batch.specs.LeapSecondsMachine.{is_midnight, is_pair, is_rise, is_table}
-use Rattle.st_batch.specs.LeapTable.{IsPair, PairUp, IsTableOf}
+use Rattle.st_batch.specs.LeapTable.{PairUp, IsTableOf}
 use Rattle.st_batch.specs.NumbersMachine.{numbers_in, are_numbers}
 use Rattle.st_batch.specs.Variable.{values_of}
 use Rattle.st_batch.proofs.Decimals.{one-units, one-count}

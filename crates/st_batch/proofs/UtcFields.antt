@@ -1,12 +1,10 @@
 -- A UTC time is read exactly as it is spelled.
-use Rattle.std.proofs.Common.{◌≡◌, ℕ, zero, suc, ◌+◌, ◌-◌, ◌*◌, ◌^◌, ◌<◌, ◌≤◌, Bool, true, false, Option, Some, None, IsTrue, List, [], ◌∷◌, ◌++◌, length, take, drop, ◌⊎◌, inl, inr, cond, eqb, refl, sym, ap, ◌∙◌, arith, rules, length-append, length-take-le, add-zero, nat_le, option_and_then, ◌&&◌}
-use Rattle.std.proofs.Math.Seq.{take-append_seam, drop-append_seam}
-use Rattle.std.proofs.lemmas.List.{take-append-drop}
+use Rattle.std.proofs.Common.{◌≡◌, ℕ, ◌≤◌, true, Option, Some, None, List, [], ◌∷◌, ◌++◌, length, inl, inr, eqb, refl, sym, ap, ◌∙◌, arith, nat_le, ◌&&◌}
 use Rattle.std.proofs.lemmas.Bool.{cases_Bool}
 use Rattle.std.proofs.lemmas.Bool.Decides.{nat_tests}
 use Rattle.st_text.specs.Bytes.{are_digits, number_of}
 use Rattle.st_batch.specs.declared.utc_time.Fields.{Fields}
-use Rattle.st_batch.specs.UtcTime.{TimeParts, IsRun, AreDecimals, AreTimeParts, pointed, spelling, units_of}
+use Rattle.st_batch.specs.UtcTime.{TimeParts, AreDecimals, AreTimeParts, pointed, spelling, units_of}
 use Rattle.st_batch.specs.ScanMachine.{digits_of_text, field_of_text}
 use Rattle.st_batch.specs.UtcTimeMachine.{scaled_of_text, fraction_of_text, fields_of_text}
 use Rattle.st_batch.proofs.ScanLaws.{and_then-some, some-same, digits-spelled, digits-read, field-spelled, field-read}

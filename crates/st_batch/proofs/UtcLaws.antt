@@ -1,8 +1,7 @@
 -- The reading of a UTC time meets its definition, and the definition has one answer.
-use Rattle.std.proofs.Common.{◌≡◌, ℕ, ◌+◌, ◌*◌, ◌^◌, ◌≤◌, Bool, true, false, ◌&&◌, nat_le, ℤ, pos, ◌≤ℤ◌, int_le, Option, Some, None, MatchOption, List, inl, inr, refl, sym, ap, ◌∙◌, subst, arith}
+use Rattle.std.proofs.Common.{◌≡◌, ℕ, true, ◌&&◌, ℤ, Option, Some, None, MatchOption, List, inl, inr, sym, ap, ◌∙◌, subst, arith}
 use Rattle.std.proofs.lemmas.Bool.{cases_Bool}
 use Rattle.std.proofs.lemmas.Bool.Decides.{nat_tests}
-use Rattle.std.proofs.lemmas.Int.{ints}
 use Rattle.st_dates.specs.Calendar.{IsCalendarDay, day_number}
 use Rattle.st_dates.specs.CalendarMachine.{calendar_day}
 use Rattle.st_dates.specs.Label.{formal}
@@ -11,8 +10,8 @@ use Rattle.st_dates.specs.declared.label.TheConstants.{FIRST, LAST}
 use Rattle.st_dates.proofs.CalendarLaws.{there, there_only}
 use Rattle.st_text.specs.Bytes.{number_of}
 use Rattle.st_batch.specs.declared.utc_time.Fields.{Fields}
-use Rattle.st_batch.specs.UtcTime.{TimeParts, AreTimeParts, spelling, units_of_day, Names, IsUtcTime}
-use Rattle.st_batch.specs.UtcTimeMachine.{fields_of_text, units_of_fields, are_of_day, is_in_range, label_of_fields, utc_of_text}
+use Rattle.st_batch.specs.UtcTime.{TimeParts, Names, IsUtcTime}
+use Rattle.st_batch.specs.UtcTimeMachine.{fields_of_text, are_of_day, is_in_range, label_of_fields, utc_of_text}
 use Rattle.st_batch.proofs.Tests.{and-left, and-right, tested, passed}
 use Rattle.st_batch.proofs.ScanLaws.{and_then-some, some-same}
 use Rattle.st_batch.proofs.UtcFields.{fields_of, fields-spelled, fields-read}

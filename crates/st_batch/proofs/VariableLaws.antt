@@ -1,19 +1,16 @@
 -- The values of a variable, one more assignment at a time.
-use Rattle.std.proofs.Common.{◌≡◌, ℕ, ◌+◌, ◌<◌, length, take, get_or, Bool, true, false, ◌&&◌, ◌||◌, bytes_eq, if◌then◌else◌, cond, List, [], ◌∷◌, ◌++◌, filter, refl, sym, ap, ◌∙◌, append_assoc, inl, inr}
+use Rattle.std.proofs.Common.{◌≡◌, ℕ, ◌+◌, ◌<◌, length, take, get_or, Bool, true, false, ◌&&◌, ◌||◌, bytes_eq, cond, List, [], ◌∷◌, ◌++◌, filter, refl, sym, ap, ◌∙◌}
 use Rattle.std.specs.List.{flat_map, list_any}
-use Rattle.std.proofs.lemmas.Bool.{cases_Bool}
 use Rattle.std.proofs.lemmas.List.{append-nil, take_more}
 use Rattle.std.proofs.lemmas.List.Elements.{filter-append}
 use Rattle.std.proofs.lemmas.Grind.{flat_map-append}
 use Rattle.std.proofs.lemmas.List.Folds.{list_any-append}
 use Rattle.st_kernel_text.specs.declared.assignment.Assignment.{Assignment}
-use Rattle.st_kernel_text.specs.declared.assignment.Mode.{Mode}
-use Rattle.st_kernel_text.specs.declared.assignment.Mode.TheVariants.{Set, Add}
 use Rattle.st_kernel_text.specs.declared.value.Value.{Value}
 use Rattle.st_kernel_text.specs.declared.value.Value.TheVariants.{Number, Text}
 use Rattle.st_decimal.specs.declared.number.Dec.{Dec}
 use Rattle.st_batch.specs.NumbersMachine.{numbers_in, are_numbers, list_after, all_after}
-use Rattle.st_batch.specs.Variable.{sets, is_set, since_last_set, values_of}
+use Rattle.st_batch.specs.Variable.{is_set, since_last_set, values_of}
 
 pub numbers_in-append : (a b : List Value) → numbers_in (a ++ b) ≡ numbers_in a ++ numbers_in b
 numbers_in-append [] b = refl

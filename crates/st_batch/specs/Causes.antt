@@ -5,7 +5,7 @@ use Rattle.st_batch.specs.declared.fault.LineFault.TheVariants.{NoFile, FileFaul
 use Rattle.st_batch.specs.declared.setup.SetupFault.{SetupFault}
 use Rattle.st_batch.specs.declared.setup.SetupFault.TheVariants as setup
 use Rattle.st_batch.specs.declared.status.Status.{Status}
-use Rattle.st_batch.specs.declared.status.Status.TheVariants.{Done, SomeRefused, BadWords, BadSetup, WriteFault, OutOfMemory}
+use Rattle.st_batch.specs.declared.status.Status.TheVariants.{BadSetup}
 
 -- a file that isn't there has a miss, a faulty one a fault, and one that is too long many bytes taken
 abbrev pub IsCaused : LineFault → Type 0 → Type 0 → Type 0 → Type 0

@@ -1,5 +1,5 @@
 -- Leap seconds, by the header of NAIF's leapseconds kernels and the Time Required Reading.
-use Rattle.std.specs.Prelude.{◌≡◌, ℕ, ◌+◌, ◌*◌, ◌≤◌, ℤ, pos, negsuc, ◌+ℤ◌, ◌-ℤ◌, ◌*ℤ◌, ◌≤ℤ◌, ◌<ℤ◌, int_le, List, [], ◌∷◌, length, codes, reverse, find, Option, Some, None}
+use Rattle.std.specs.Prelude.{◌≡◌, ◌+◌, ◌≤◌, ℤ, pos, ◌+ℤ◌, ◌-ℤ◌, ◌*ℤ◌, ◌≤ℤ◌, ◌<ℤ◌, int_le, List, [], ◌∷◌, length, codes, reverse, find, Option, Some, None}
 use Rattle.st_dates.specs.AtDate.{moment}
 use Rattle.st_dates.specs.Label.{formal}
 use Rattle.st_dates.specs.declared.label.Label.{Label}
@@ -7,7 +7,7 @@ use Rattle.st_dates.specs.declared.label.TheConstants.{FIRST, LAST}
 use Rattle.st_decimal.specs.Scaling.{IsUnits18, IsWhole}
 use Rattle.st_kernel_text.specs.declared.assignment.Assignment.{Assignment}
 use Rattle.st_kernel_text.specs.declared.value.Value.{Value}
-use Rattle.st_kernel_text.specs.declared.value.Value.TheVariants.{Number, Text}
+use Rattle.st_kernel_text.specs.declared.value.Value.TheVariants.{Number}
 use Rattle.st_batch.specs.Variable.{values_of}
 use Rattle.st_batch.specs.declared.leap_seconds.LeapPair.{LeapPair}
 

@@ -1,5 +1,5 @@
 -- The tests of a table of leap seconds, as the code makes them.
-use Rattle.std.specs.Prelude.{ℕ, ◌+◌, Bool, true, ◌&&◌, ◌==◌, nat_le, ℤ, pos, ◌+ℤ◌, int_le, int_lt, List, [], ◌∷◌, length}
+use Rattle.std.specs.Prelude.{◌+◌, Bool, true, ◌&&◌, ◌==◌, nat_le, ℤ, pos, ◌+ℤ◌, int_le, int_lt, List, [], ◌∷◌, length}
 use Rattle.std.specs.Int.{int_rem_euclid}
 use Rattle.std.specs.List.{list_all}
 use Rattle.st_dates.specs.declared.label.TheConstants.{FIRST, LAST}

@@ -1,5 +1,5 @@
 -- Numbers that are the counts and dates of leap second pairs in turn.
-use Rattle.std.specs.Prelude.{ℕ, ◌≤◌, pos, List, [], ◌∷◌}
+use Rattle.std.specs.Prelude.{◌≤◌, pos, List, [], ◌∷◌}
 use Rattle.st_decimal.specs.Scaling.{IsUnits18, IsWhole}
 use Rattle.st_decimal.specs.declared.number.Dec.{Dec}
 use Rattle.st_batch.specs.LeapSeconds.{IsLeapTable}

@@ -1,5 +1,5 @@
 -- What reading a file by its name gives, where the files tell their bytes.
-use Rattle.std.specs.Prelude.{◌≡◌, ℕ, ◌≤◌, ◌<◌, Option, Some, None, List, length, ⊤}
+use Rattle.std.specs.Prelude.{◌≡◌, ℕ, ◌<◌, Option, Some, None, List, length, ⊤}
 use Rattle.st_outside.specs.Entries.{Entries, bytes_of}
 use Rattle.st_batch.specs.declared.load.TheConstants.{MAX_FILE}
 

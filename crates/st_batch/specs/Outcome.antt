@@ -11,7 +11,6 @@ use Rattle.st_kernel_text.specs.declared.fault.TextFault.TheVariants.{At}
 use Rattle.st_outside.specs.Entries.{Entries, bytes_of}
 use Rattle.st_batch.specs.declared.answer.Answer.{Answer}
 use Rattle.st_batch.specs.declared.answer.Answer.TheVariants.{Text, Refused}
-use Rattle.st_batch.specs.declared.fault.WordFault.TheVariants as word
 use Rattle.st_batch.specs.declared.fault.LineFault.{LineFault}
 use Rattle.st_batch.specs.declared.fault.LineFault.TheVariants.{NoFile, FileFault, FileTooLong, KernelText, NotBuilt, BadTime}
 use Rattle.st_batch.specs.declared.leap_seconds.LeapPair.{LeapPair}

@@ -1,11 +1,10 @@
 -- An output that is prepared before it is written.
-use Rattle.std.specs.Prelude.{◌≡◌, ℕ, List, [], ◌∷◌, ◌++◌, Option, ◌⊎◌, ⊤}
-use Rattle.std.specs.List.{flat_map}
+use Rattle.std.specs.Prelude.{◌≡◌, ℕ, List, [], ◌∷◌, Option, ◌⊎◌, ⊤}
 use Rattle.std.specs.Io.KnownBytes.{Appends}
 use Rattle.st_batch.specs.declared.answer.Answer.{Answer}
 use Rattle.st_batch.specs.declared.leap_seconds.LeapPair.{LeapPair}
 use Rattle.st_batch.specs.declared.status.Status.{Status}
-use Rattle.st_batch.specs.declared.status.Status.TheVariants.{Done, SomeRefused, BadWords, BadSetup, WriteFault, OutOfMemory}
+use Rattle.st_batch.specs.declared.status.Status.TheVariants.{BadWords, WriteFault, OutOfMemory}
 use Rattle.st_batch.specs.declared.top.Prepared.{Prepared}
 use Rattle.st_batch.specs.Outcome.{MayAnswer, line_of, status_of}
 use Rattle.st_batch.specs.Taken.{TakesPrefix}

@@ -1,5 +1,5 @@
 -- Reading parts off the front of a text, as the code does it.
-use Rattle.std.specs.Prelude.{ℕ, ◌+◌, ◌-◌, nat_le, ◌&&◌, ◌==◌, Option, Some, None, option_and_then, if◌then◌else◌, List, [], ◌∷◌, length, take, drop}
+use Rattle.std.specs.Prelude.{ℕ, nat_le, ◌&&◌, ◌==◌, Option, Some, None, option_and_then, if◌then◌else◌, List, [], ◌∷◌, length, take, drop}
 use Rattle.st_text.specs.Bytes.{are_digits, number_of}
 
 -- the number of the first digits, and the text behind them

@@ -1,6 +1,6 @@
 -- A UTC time as text, `YYYY-MM-DDTHH:MM:SS` with an optional point and decimals: ISO's calendar format
 -- of the Time Required Reading.
-use Rattle.std.specs.Prelude.{◌≡◌, ℕ, ◌+◌, ◌-◌, ◌*◌, ◌^◌, ◌≤◌, ℤ, pos, ◌≤ℤ◌, Option, Some, None, IsTrue, List, [], ◌∷◌, ◌++◌, length}
+use Rattle.std.specs.Prelude.{◌≡◌, ℕ, ◌+◌, ◌-◌, ◌*◌, ◌^◌, ◌≤◌, pos, ◌≤ℤ◌, Option, Some, None, IsTrue, List, [], ◌∷◌, ◌++◌, length}
 use Rattle.st_text.specs.Bytes.{are_digits, number_of}
 use Rattle.st_dates.specs.Calendar.{IsCalendarDay, day_number}
 use Rattle.st_dates.specs.Label.{formal}

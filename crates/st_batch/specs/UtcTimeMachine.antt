@@ -1,5 +1,5 @@
 -- The reading of a UTC time from left to right, as the code does it.
-use Rattle.std.specs.Prelude.{◌≡◌, ℕ, ◌+◌, ◌-◌, ◌*◌, ◌^◌, ◌<◌, ℤ, pos, unsigned_abs, ◌≤ℤ◌, int_le, nat_le, nat_eq, Bool, ◌&&◌, ◌==◌, not, Option, Some, None, option_and_then, if◌then◌else◌, List, [], ◌∷◌, ◌++◌, length, take, drop}
+use Rattle.std.specs.Prelude.{ℕ, ◌+◌, ◌-◌, ◌*◌, ◌^◌, ◌<◌, ℤ, pos, int_le, nat_le, Bool, ◌&&◌, ◌==◌, Option, Some, None, option_and_then, if◌then◌else◌, List, [], ◌∷◌, length}
 use Rattle.st_text.specs.Bytes.{are_digits, number_of}
 use Rattle.st_dates.specs.CalendarMachine.{calendar_day}
 use Rattle.st_dates.specs.Label.{formal}

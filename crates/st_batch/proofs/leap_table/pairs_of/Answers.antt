@@ -1,4 +1,4 @@
-use Rattle.std.proofs.Common.{◌≡◌, ◌++◌, ◌∷◌, [], List, sym, ap, ◌∙◌, subst}
+use Rattle.std.proofs.Common.{◌≡◌, ◌++◌, ◌∷◌, [], List, sym, ◌∙◌, subst}
 use Rattle.st_batch.specs.declared.leap_seconds.LeapPair.{LeapPair}
 use Rattle.st_batch.proofs.PairsLaws.{Joins, Splits, joins-step, splits-step, joins-end}
 use Rattle.st_batch.proofs.leap_table.pairs_of.Goals as goal

@@ -1,6 +1,4 @@
-use Rattle.std.proofs.Common.{◌≡◌, true, false, sym, ap, ◌∙◌, subst, List, IfOk}
-use Rattle.st_decimal.specs.declared.number.Dec.{Dec}
-use Rattle.st_batch.specs.LeapTable.{IsTableOf}
+use Rattle.std.proofs.Common.{sym, ◌∙◌}
 use Rattle.st_batch.proofs.TableLaws.{given, not-given, text-given}
 use Rattle.st_batch.proofs.leap_table.read_table.Goals as goal
 

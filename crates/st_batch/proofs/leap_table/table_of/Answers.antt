@@ -1,4 +1,4 @@
-use Rattle.std.proofs.Common.{◌≡◌, sym, ap, ◌∙◌}
+use Rattle.std.proofs.Common.{sym, ap, ◌∙◌}
 use Rattle.st_batch.specs.LeapSecondsMachine.{is_table}
 use Rattle.st_batch.proofs.TableLaws.{passes-table, fails-table}
 use Rattle.st_batch.proofs.leap_table.table_of.Goals as goal

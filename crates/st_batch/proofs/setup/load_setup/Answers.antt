@@ -1,4 +1,4 @@
-use Rattle.std.proofs.Common.{◌≡◌, List, ℕ, Ok, IfOk, IfErr, subst}
+use Rattle.std.proofs.Common.{List, ℕ, Ok, IfOk, IfErr, subst}
 use Rattle.st_outside.specs.Causes.{Rose}
 use Rattle.st_batch.specs.Setup.{BytesGive, BytesRefuse}
 use Rattle.st_batch.proofs.RunLaws.{file-gives, file-refuses}

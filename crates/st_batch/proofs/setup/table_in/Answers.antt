@@ -1,4 +1,4 @@
-use Rattle.std.proofs.Common.{◌≡◌, List, Err, ap, subst, sym}
+use Rattle.std.proofs.Common.{List, Err, ap, subst}
 use Rattle.st_kernel_text.specs.declared.assignment.Assignment.{Assignment}
 use Rattle.st_batch.specs.LeapSeconds.{GiveTable}
 use Rattle.st_batch.specs.declared.leap_seconds.LeapPair.{LeapPair}

@@ -1,4 +1,4 @@
-use Rattle.std.proofs.Common.{◌≡◌, sym, ap, ◌∙◌, subst, List, IfOk, map, string_bytes}
+use Rattle.std.proofs.Common.{subst, List, IfOk}
 use Rattle.st_batch.specs.declared.leap_seconds.LeapPair.{LeapPair}
 use Rattle.st_batch.specs.Prepared.{AnswersLine}
 use Rattle.st_batch.proofs.WordsLaws.{reads}

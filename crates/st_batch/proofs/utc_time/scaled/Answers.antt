@@ -1,4 +1,4 @@
-use Rattle.std.proofs.Common.{◌≡◌, ◌<◌, ◌*◌, ◌-◌, ◌^◌, length, arith}
+use Rattle.std.proofs.Common.{◌<◌, ◌*◌, ◌^◌, length, arith}
 use Rattle.st_batch.proofs.Numbers.{scaled_below}
 use Rattle.st_batch.proofs.utc_time.scaled.Goals as goal
 

@@ -1,5 +1,5 @@
 use Rattle.st_batch.proofs.VariableLaws.{list-step, all-step}
-use Rattle.std.proofs.Common.{◌∙◌, arith}
+use Rattle.std.proofs.Common.{◌∙◌}
 use Rattle.st_batch.proofs.variable.numbers_of.Goals as goal
 
 pub loop-assignment-preserved : goal.loop-assignment-preserved
