@@ -67,7 +67,7 @@ low_two lo hi s h w = record { le = flip s.num s.den (le_f_trans (whole (negsuc 
 abbrev pub sliver : ℕ → Fraction
 sliver d = over (pos 1) d
 
-sliver-pos : (d : ℕ) → whole (pos 0) <ᶠ sliver d
+pub sliver-pos : (d : ℕ) → whole (pos 0) <ᶠ sliver d
 sliver-pos d = record { lt = go d }
   where
     go : (d : ℕ) → (pos 0 *ℤ pos d) <ℤ (pos 1 *ℤ pos 1)

@@ -5,3 +5,4 @@ pub mod Widths
 pub mod Doubled
 pub mod Reduced
 pub mod Eccentric
+pub mod OneValue

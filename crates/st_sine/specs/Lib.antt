@@ -1,2 +1,3 @@
 pub mod Anomaly
 pub mod Narrow
+pub mod Laws

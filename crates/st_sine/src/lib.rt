@@ -7,6 +7,7 @@
 mod angle;
 mod anomaly;
 mod double;
+pub mod laws;
 mod orbit;
 
 pub use angle::sin_cos;
