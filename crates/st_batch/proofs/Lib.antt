@@ -1,9 +1,13 @@
-pub mod CountLoop
 pub mod LineLaws
+pub mod ListDateLaws
 pub mod Numbers
+pub mod OneOutput
 pub mod PairLaws
 pub mod PairLoop
+pub mod RunLaws
 pub mod ScanLaws
 pub mod TableLaws
+pub mod Tests
 pub mod UtcFields
 pub mod UtcLaws
+pub mod WordsLaws

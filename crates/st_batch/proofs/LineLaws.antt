@@ -8,7 +8,6 @@ use Rattle.std.proofs.lemmas.Bool.{cases_Bool}
 use Rattle.std.proofs.lemmas.Bool.Decides.{nat_tests}
 use Rattle.st_text.specs.Bytes.{is_blank, are_blanks, are_digits, number_of}
 use Rattle.st_text.specs.Lines.{skip_blanks}
-use Rattle.st_dates.specs.AtDate.{ReadsAtDate, Written, named}
 use Rattle.st_batch.specs.declared.leap_list.Stage.{Stage}
 use Rattle.st_batch.specs.declared.leap_list.Stage.TheVariants.{Listing, After}
 use Rattle.st_batch.specs.declared.leap_list.Step.{Step}
@@ -17,7 +16,8 @@ use Rattle.st_batch.specs.LeapList.{AreSomeBlanks, SpellsPair, OpensList, EndsWo
 use Rattle.st_batch.specs.LeapListMachine.{closes, pair_of_text, pair_line, after_opening, ends_word, assigns_table}
 use Rattle.st_batch.specs.ScanMachine.{after_mark, after_word, after_blanks}
 use Rattle.st_batch.proofs.ScanLaws.{and_then-some, some-same, mark-read}
-use Rattle.st_batch.proofs.PairLaws.{and-left, and-right, after_word-spelled, after_word-read, pair-spelled, pair-read}
+use Rattle.st_batch.proofs.Tests.{and-left, and-right}
+use Rattle.st_batch.proofs.PairLaws.{after_word-spelled, after_word-read, pair-spelled, pair-read}
 
 -- the text begins with a byte that is no blank
 pub data IsSolid : List ℕ → Type 0 where
@@ -44,22 +44,22 @@ skip-read : (text : List ℕ) → (lead : List ℕ) × (are_blanks lead ≡ true
 skip-read [] = ([], refl, refl)
 skip-read (b ∷ text) =
     elim (cases_Bool (is_blank b)) as (λ _. (lead : List ℕ) × (are_blanks lead ≡ true) × (b ∷ text ≡ lead ++ skip_blanks (b ∷ text))) [
-      inl y ↦
-        let t = skip-read text in
-        (b ∷ t.0, rw y t.1, rw y (ap (λ (u : List ℕ). b ∷ u) t.2))
-    | inr n ↦ ([], refl, rw n refl)
+      | inl y ↦
+          let t = skip-read text in
+          (b ∷ t.0, rw y t.1, rw y (ap (λ (u : List ℕ). b ∷ u) t.2))
+      | inr n ↦ ([], refl, rw n refl)
     ]
 
 blanks-read : (text rest : List ℕ) → after_blanks text ≡ Some rest → (lead : List ℕ) × AreSomeBlanks lead × (text ≡ lead ++ rest)
 blanks-read [] rest e = absurd cc
 blanks-read (b ∷ text) rest e =
     elim (cases_Bool (is_blank b)) [
-      inl y ↦
-        let v = rw y at e in
-        let t = skip-read text in
-        let back : skip_blanks text ≡ rest = some-same _ rest v in
-        (b ∷ t.0, (omega arith, rw y t.1), ap (λ (u : List ℕ). b ∷ u) (t.2 ∙ ap (λ (u : List ℕ). t.0 ++ u) back))
-    | inr n ↦ let v = rw n at e in absurd cc
+      | inl y ↦
+          let v = rw y at e in
+          let t = skip-read text in
+          let back : skip_blanks text ≡ rest = some-same _ rest v in
+          (b ∷ t.0, (omega arith, rw y t.1), ap (λ (u : List ℕ). b ∷ u) (t.2 ∙ ap (λ (u : List ℕ). t.0 ++ u) back))
+      | inr n ↦ let v = rw n at e in absurd cc
     ]
 
 -- the last two bytes of a text that a blank and `)` end
@@ -74,9 +74,9 @@ closes-spelled text blank h =
     let long : length whole ≡ length text + 2 = length-append text (blank ∷ 41 ∷ []) in
     let low : nat_le 2 (length whole) ≡ true = grind (arith, nat_tests) in
     let first : get_or whole (length whole - 2) 0 ≡ blank =
-      ap (λ (n : ℕ). get_or whole n 0) (omega (arith, long)) ∙ ending text blank 41 0 in
+    ap (λ (n : ℕ). get_or whole n 0) (omega (arith, long)) ∙ ending text blank 41 0 in
     let second : get_or whole (length whole - 1) 0 ≡ 41 =
-      ap (λ (n : ℕ). get_or whole n 0) (omega (arith, long)) ∙ ending text blank 41 1 in
+    ap (λ (n : ℕ). get_or whole n 0) (omega (arith, long)) ∙ ending text blank 41 1 in
     rw (low, first, second) (rw h refl)
 
 closed-front : (text : List ℕ) (blank : ℕ) → take (length (text ++ (blank ∷ 41 ∷ [])) - 2) (text ++ (blank ∷ 41 ∷ [])) ≡ text
@@ -99,16 +99,18 @@ unfolding closes
 closes-read text h =
     let low : nat_le 2 (length text) ≡ true = and-left (nat_le 2 (length text)) (is_blank (get_or text (length text - 2) 0) && eqb (get_or text (length text - 1) 0) 41) h in
     let ends : (is_blank (get_or text (length text - 2) 0) && eqb (get_or text (length text - 1) 0) 41) ≡ true =
-      and-right (nat_le 2 (length text)) (is_blank (get_or text (length text - 2) 0) && eqb (get_or text (length text - 1) 0) 41) h in
+    and-right (nat_le 2 (length text)) (is_blank (get_or text (length text - 2) 0) && eqb (get_or text (length text - 1) 0) 41) h in
     let blank : is_blank (get_or text (length text - 2) 0) ≡ true = and-left (is_blank (get_or text (length text - 2) 0)) (eqb (get_or text (length text - 1) 0) 41) ends in
     let close : eqb (get_or text (length text - 1) 0) 41 ≡ true = and-right (is_blank (get_or text (length text - 2) 0)) (eqb (get_or text (length text - 1) 0) 41) ends in
     let two : 2 ≤ length text = grind (arith, nat_tests) in
     let mark : get_or text (length text - 1) 0 ≡ 41 = grind (arith, nat_tests) in
     let place : length text - 2 + 1 ≡ length text - 1 = omega arith in
     let back = last_two text (length text - 2) (omega arith) in
-    let last : get_or text (length text - 2 + 1) 0 ≡ 41 = ap (λ (n : ℕ). get_or text n 0) place ∙ mark in
-    (get_or text (length text - 2) 0, blank,
-      sym (take-append-drop (length text - 2) text) ∙ ap (λ (t : List ℕ). take (length text - 2) text ++ t) (back ∙ ap (λ (c : ℕ). get_or text (length text - 2) 0 ∷ c ∷ []) last))
+    let last : get_or text (length text - 2 + 1) 0 ≡ 41 = ap (λ (n : ℕ). get_or text n 0) place ∙ mark in (
+      get_or text (length text - 2) 0,
+      blank,
+      sym (take-append-drop (length text - 2) text) ∙ ap (λ (t : List ℕ). take (length text - 2) text ++ t) (back ∙ ap (λ (c : ℕ). get_or text (length text - 2) 0 ∷ c ∷ []) last),
+    )
 
 -- a digit stands at each place of a run
 digit_at : (run : List ℕ) (k : ℕ) → k < length run → are_digits run ≡ true → is_ascii_digit (get_or run k 0) ≡ true
@@ -129,18 +131,18 @@ digits-no_close front run low h =
     let whole = front ++ run in
     let long : length whole ≡ length front + length run = length-append front run in
     let last : get_or whole (length whole - 1) 0 ≡ get_or run (length run - 1) 0 =
-      ap (λ (n : ℕ). get_or whole n 0) (omega (arith, long)) ∙ get_or-append-add front run (length run - 1) 0 in
+    ap (λ (n : ℕ). get_or whole n 0) (omega (arith, long)) ∙ get_or-append-add front run (length run - 1) 0 in
     let digit = digit_at run (length run - 1) (omega arith) h in
     let other : eqb (get_or whole (length whole - 1) 0) 41 ≡ false = rw last (digit_no_close _ digit) in
     rw other (simp and-false)
 
 -- a pair ends with a digit, and so not with `)`
 pair-no_close : (pair : LeapPair) (text : List ℕ) → SpellsPair pair text → closes text ≡ false
-pair-no_close pair text (count, date, low, high, digits, number, (named year name day, n, spells, of_day, at, range), whole) =
-    let front = count ++ (codes ", @" ++ (year ++ (45 ∷ (name ++ (45 ∷ []))))) in
-    let parts : front ++ day ≡ count ++ (codes ", @" ++ (year ++ (45 ∷ (name ++ (45 ∷ day))))) = simp append_assoc in
-    let same : text ≡ front ++ day = whole ∙ ap (λ (t : List ℕ). count ++ (codes ", @" ++ t)) spells.whole ∙ sym parts in
-    rw same (digits-no_close front day spells.parts.2.at_least spells.parts.2.digits)
+pair-no_close pair text (count, date, low, high, digits, number, d, whole) =
+    let front = count ++ (codes ", @" ++ (d.year ++ (45 ∷ (d.name ++ (45 ∷ []))))) in
+    let parts : front ++ d.day ≡ count ++ (codes ", @" ++ (d.year ++ (45 ∷ (d.name ++ (45 ∷ d.day))))) = simp append_assoc in
+    let same : text ≡ front ++ d.day = whole ∙ ap (λ (t : List ℕ). count ++ (codes ", @" ++ t)) d.whole ∙ sym parts in
+    rw same (digits-no_close front d.day d.parts.2.at_least d.parts.2.digits)
 
 -- a pair begins with a digit
 pair-solid : (pair : LeapPair) (text : List ℕ) → SpellsPair pair text → IsSolid text
@@ -171,9 +173,9 @@ last-spelled pair lead text blank h s b =
 -- what a line of the list led to: it is an inner line, or the last one
 pub data ReadsLine (line : List ℕ) (step : Step) : Type 0 where
   inner : (pair : LeapPair) (lead text : List ℕ) → AreSomeBlanks lead → SpellsPair pair text → line ≡ lead ++ text
-    → step ≡ record { stage = Listing; pair = Some pair } → ReadsLine line step
+      → step ≡ record { stage = Listing; pair = Some pair } → ReadsLine line step
   last : (pair : LeapPair) (lead text : List ℕ) (blank : ℕ) → AreSomeBlanks lead → SpellsPair pair text → is_blank blank ≡ true
-    → line ≡ lead ++ (text ++ (blank ∷ 41 ∷ [])) → step ≡ record { stage = After; pair = Some pair } → ReadsLine line step
+      → line ≡ lead ++ (text ++ (blank ∷ 41 ∷ [])) → step ≡ record { stage = After; pair = Some pair } → ReadsLine line step
 
 pub line-read : (line : List ℕ) (step : Step) → pair_line line ≡ Some step → ReadsLine line step
 unfolding pair_line
@@ -181,16 +183,16 @@ line-read line step e =
     let a = and_then-some _ (after_blanks line) step e in
     let lead = blanks-read line a.0 a.1 in
     elim (cases_Bool (closes a.0)) [
-      inl y ↦
-        let v = rw y at a.2 in
-        let p = and_then-some _ (pair_of_text (take (length a.0 - 2) a.0)) step v in
-        let c = closes-read a.0 y in
-        last p.0 lead.0 (take (length a.0 - 2) a.0) c.0 lead.1 (pair-read p.0 _ p.1) c.1
+      | inl y ↦
+          let v = rw y at a.2 in
+          let p = and_then-some _ (pair_of_text (take (length a.0 - 2) a.0)) step v in
+          let c = closes-read a.0 y in
+          last p.0 lead.0 (take (length a.0 - 2) a.0) c.0 lead.1 (pair-read p.0 _ p.1) c.1
           (lead.2 ∙ ap (λ (t : List ℕ). lead.0 ++ t) c.2) (sym (some-same _ step p.2))
-    | inr n ↦
-        let v = rw n at a.2 in
-        let p = and_then-some _ (pair_of_text a.0) step v in
-        inner p.0 lead.0 a.0 lead.1 (pair-read p.0 _ p.1) lead.2 (sym (some-same _ step p.2))
+      | inr n ↦
+          let v = rw n at a.2 in
+          let p = and_then-some _ (pair_of_text a.0) step v in
+          inner p.0 lead.0 a.0 lead.1 (pair-read p.0 _ p.1) lead.2 (sym (some-same _ step p.2))
     ]
 
 -- a line's parts one behind another
@@ -202,7 +204,7 @@ pub opening-spelled : (opening rest : List ℕ) → OpensList opening → after_
 unfolding after_opening
 opening-spelled opening rest (first, second, h1, h2, whole) =
     let same : opening ++ rest ≡ codes "DELTET/DELTA_AT" ++ (first ++ (61 ∷ (second ++ (40 ∷ rest)))) =
-      ap (λ (t : List ℕ). t ++ rest) whole ∙ simp append_assoc in
+    ap (λ (t : List ℕ). t ++ rest) whole ∙ simp append_assoc in
     rw same (rw (after_word-spelled (codes "DELTET/DELTA_AT") (first ++ (61 ∷ (second ++ (40 ∷ rest)))))
     (rw (blanks-spelled first (61 ∷ (second ++ (40 ∷ rest))) h1 (solid 61 _ refl))
     (rw (blanks-spelled second (40 ∷ rest) h2 (solid 40 _ refl)) refl)))
@@ -218,9 +220,11 @@ opening-read line rest e =
     let first = blanks-read a.0 b.0 b.1 in
     let sign = mark-read 61 b.0 c.0 c.1 in
     let second = blanks-read c.0 d.0 d.1 in
-    let open_mark = mark-read 40 d.0 rest d.2 in
-    (codes "DELTET/DELTA_AT" ++ (first.0 ++ (61 ∷ (second.0 ++ (40 ∷ [])))), (first.0, second.0, first.1, second.1, refl),
-      chained line a.0 b.0 c.0 d.0 rest first.0 second.0 word first.2 sign second.2 open_mark ∙ sym (simp append_assoc))
+    let open_mark = mark-read 40 d.0 rest d.2 in (
+      codes "DELTET/DELTA_AT" ++ (first.0 ++ (61 ∷ (second.0 ++ (40 ∷ [])))),
+      (first.0, second.0, first.1, second.1, refl),
+      chained line a.0 b.0 c.0 d.0 rest first.0 second.0 word first.2 sign second.2 open_mark ∙ sym (simp append_assoc),
+    )
 
 -- a word that ends passes the test of it, and what passes ends
 ends-word : (rest : List ℕ) → EndsWord rest → ends_word (Some rest) ≡ true
@@ -252,7 +256,8 @@ opening-assigns opening rest (first, second, h1, h2, whole) = by first h1 whole
   where
     by : (first : List ℕ) → AreSomeBlanks first → opening ≡ codes "DELTET/DELTA_AT" ++ (first ++ (61 ∷ (second ++ (40 ∷ [])))) → AssignsTable (opening ++ rest)
     by [] h e = absurd (omega (arith, h.0))
-    by (b ∷ more) h e =
-      ((b ∷ more) ++ (61 ∷ (second ++ (40 ∷ rest))),
-        ap skip_blanks (ap (λ (t : List ℕ). t ++ rest) e) ∙ simp append_assoc,
-        and-left (is_blank b) (are_blanks more) h.1)
+    by (b ∷ more) h e = (
+      (b ∷ more) ++ (61 ∷ (second ++ (40 ∷ rest))),
+      ap skip_blanks (ap (λ (t : List ℕ). t ++ rest) e) ∙ simp append_assoc,
+      and-left (is_blank b) (are_blanks more) h.1,
+    )

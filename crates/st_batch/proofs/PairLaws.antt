@@ -9,23 +9,15 @@ use Rattle.std.proofs.lemmas.Bool.{cases_Bool}
 use Rattle.std.proofs.lemmas.Bool.Decides.{nat_tests}
 use Rattle.st_text.specs.Bytes.{is_blank, are_blanks, are_digits, number_of}
 use Rattle.st_text.specs.Lines.{skip_blanks}
-use Rattle.st_dates.specs.AtDate.{ReadsAtDate}
-use Rattle.st_dates.specs.AtDateMachine.{at_date_of}
-use Rattle.st_dates.proofs.DateLaws as dates
 use Rattle.st_batch.specs.declared.leap_seconds.LeapPair.{LeapPair}
-use Rattle.st_batch.specs.LeapList.{AreSomeBlanks, SpellsPair}
-use Rattle.st_batch.specs.LeapListMachine.{comma_place, pair_of_text, ok_of}
+use Rattle.st_batch.specs.LeapList.{AreSomeBlanks, SpellsPair, IsListDate}
+use Rattle.st_batch.specs.LeapListMachine.{comma_place, pair_of_text}
+use Rattle.st_batch.specs.ListDateMachine.{list_date_of}
 use Rattle.st_batch.specs.ScanMachine.{field_of_text, after_word}
 use Rattle.st_batch.specs.UtcTime.{IsRun}
+use Rattle.st_batch.proofs.ListDateLaws.{list_date-spelled, list_date-read}
+use Rattle.st_batch.proofs.Tests.{and-left, and-right}
 use Rattle.st_batch.proofs.ScanLaws.{and_then-some, some-same, field-spelled, field-read}
-
-pub and-left : (x y : Bool) → (x && y) ≡ true → x ≡ true
-and-left true y e = refl
-and-left false y e = absurd cc
-
-pub and-right : (x y : Bool) → (x && y) ≡ true → y ≡ true
-and-right true y e = e
-and-right false y e = absurd cc
 
 -- a digit is no comma
 digit_no_comma : (c : ℕ) → is_ascii_digit c ≡ true → eqb c 44 ≡ false
@@ -74,22 +66,17 @@ pub after_word-read : (word text rest : List ℕ) → after_word word text ≡ S
 unfolding after_word
 after_word-read word text rest e =
     elim (cases_Bool (bytes_eq word (take (length word) text))) [
-      inl y ↦
-        let v = rw y at e in
-        let front : word ≡ take (length word) text = (bytes_eq-Decides word (take (length word) text)).0 y in
-        let back : drop (length word) text ≡ rest = some-same _ rest v in
-        sym (take-append-drop (length word) text) ∙ ap (λ (t : List ℕ). t ++ drop (length word) text) (sym front) ∙ ap (λ (t : List ℕ). word ++ t) back
-    | inr n ↦ let v = rw n at e in absurd cc
+      | inl y ↦
+          let v = rw y at e in
+          let front : word ≡ take (length word) text = (bytes_eq-Decides word (take (length word) text)).0 y in
+          let back : drop (length word) text ≡ rest = some-same _ rest v in
+          sym (take-append-drop (length word) text) ∙ ap (λ (t : List ℕ). t ++ drop (length word) text) (sym front) ∙ ap (λ (t : List ℕ). word ++ t) back
+      | inr n ↦ let v = rw n at e in absurd cc
     ]
 
 -- a pair is its count and its date
 same_pair : {count : ℕ} {pair : LeapPair} → pair.count ≡ count → record { count = count; from = pair.from } ≡ pair
 same_pair {pair = pair} e = λ i. record { count = sym e i; from = pair.from }
-
--- what stands in an answer is what it answered
-ok_of-some : {A E : Type 0} (r : Result A E) (x : A) → ok_of r ≡ Some x → r ≡ Ok x
-ok_of-some (Ok y) x e = ap Ok (some-same y x e)
-ok_of-some (Err f) x e = absurd cc
 
 comma_place-range : (text : List ℕ) → (1 ≤ comma_place text) × (comma_place text ≤ 4)
 unfolding comma_place
@@ -101,7 +88,7 @@ pair-spelled pair text (count, date, low, high, digits, number, reads, whole) =
     let run : IsRun (length count) count = record { long = refl; digits = digits } in
     let place = comma_place-spelled count (32 ∷ 64 ∷ date) low high digits in
     let field = field-spelled (length count) 44 count (32 ∷ 64 ∷ date) run in
-    let found : at_date_of date ≡ Ok pair.from = dates.only date (Ok pair.from) reads in
+    let found = list_date-spelled date pair.from reads in
     let word = after_word-spelled (codes " @") date in
     rw whole (rw place (rw field (rw word (rw found (ap Some (same_pair number))))))
 
@@ -110,13 +97,13 @@ unfolding pair_of_text
 pair-read pair text e =
     let a = and_then-some _ (field_of_text text (comma_place text) 44) pair e in
     let b = and_then-some _ (after_word (codes " @") a.0.1) pair a.2 in
-    let c = and_then-some _ (ok_of (at_date_of b.0)) pair b.2 in
+    let c = and_then-some _ (list_date_of b.0) pair b.2 in
     let f = field-read (comma_place text) 44 text a.0.0 a.0.1 a.1 in
     let w = after_word-read (codes " @") a.0.1 b.0 b.1 in
     let same = some-same _ pair c.2 in
     let place = comma_place-range text in
-    let reads = rw (ok_of-some (at_date_of b.0) c.0 c.1) at (dates.reads b.0) in
+    let reads = list_date-read b.0 c.0 c.1 in
     let from : c.0 ≡ pair.from = ap (λ (p : LeapPair). p.from) same in
     let count : a.0.0 ≡ pair.count = ap (λ (p : LeapPair). p.count) same in
-    let P : ℤ → Type 0 = λ z. ReadsAtDate b.0 (Ok z) in
+    let P : ℤ → Type 0 = λ z. IsListDate b.0 z in
     (f.0, b.0, omega (arith, f.1.long), omega (arith, f.1.long), f.1.digits, sym count ∙ f.3, subst P from reads, f.2 ∙ ap (λ (t : List ℕ). f.0 ++ (44 ∷ t)) w)

@@ -1,5 +1,6 @@
 -- The loop over the lines: the pairs so far stand before those of the lines that are left.
-use Rattle.std.proofs.Common.{◌≡◌, ℕ, true, false, Option, Some, None, List, [], ◌∷◌, ◌++◌, map, refl, sym, ap, ◌∙◌, append_assoc}
+use Rattle.std.proofs.Common.{◌≡◌, ℕ, suc, eqb, length, arith, true, false, Option, Some, None, List, [], ◌∷◌, ◌++◌, map, refl, sym, ap, ◌∙◌, append_assoc}
+use Rattle.std.proofs.lemmas.Bool.Decides.{nat_tests}
 use Rattle.std.proofs.lemmas.List.{append-nil}
 use Rattle.st_text.specs.Lines.{raw_lines, without_cr, lines_of}
 use Rattle.st_batch.specs.declared.leap_list.Stage.{Stage}
@@ -73,3 +74,11 @@ no-pairs bytes e = rw e refl
 pub no-table : (bytes : List ℕ) (pairs : List LeapPair) → pairs_from Commentary (lines_of bytes) ≡ Some pairs → is_table pairs ≡ false → table_of bytes ≡ None
 unfolding table_of
 no-table bytes pairs e t = rw e (rw t refl)
+
+-- a text with no bytes is empty
+pub no-bytes : (text : List ℕ) → eqb (length text) 0 ≡ true → text ≡ []
+no-bytes [] e = refl
+no-bytes (b ∷ text) e = absurd (positive (length text) e)
+  where
+    positive : (n : ℕ) → eqb (suc n) 0 ≡ true → ⊥
+    positive n e = grind (arith, nat_tests)

@@ -31,15 +31,15 @@ pub digits-read : (width : ℕ) (text : List ℕ) (n : ℕ) (rest : List ℕ) �
 unfolding digits_of_text
 digits-read width text n rest e =
     elim (cases_Bool (nat_le width (length text) && are_digits (take width text))) [
-      inl y ↦
-        let v = rw y at e in
-        let le : width ≤ length text = grind (arith, nat_tests) in
-        let digits : are_digits (take width text) ≡ true = grind (arith, nat_tests) in
-        let pair = some-same (number_of (take width text), drop width text) (n, rest) v in
-        let tail : drop width text ≡ rest = ap (λ (p : ℕ × List ℕ). p.1) pair in
-        let number : number_of (take width text) ≡ n = ap (λ (p : ℕ × List ℕ). p.0) pair in
-        (take width text, record { long = length-take-le width text le; digits = digits }, sym (take-append-drop width text) ∙ ap (λ (t : List ℕ). take width text ++ t) tail, sym number)
-    | inr n ↦ let v = rw n at e in absurd cc
+      | inl y ↦
+          let v = rw y at e in
+          let le : width ≤ length text = grind (arith, nat_tests) in
+          let digits : are_digits (take width text) ≡ true = grind (arith, nat_tests) in
+          let pair = some-same (number_of (take width text), drop width text) (n, rest) v in
+          let tail : drop width text ≡ rest = ap (λ (p : ℕ × List ℕ). p.1) pair in
+          let number : number_of (take width text) ≡ n = ap (λ (p : ℕ × List ℕ). p.0) pair in
+          (take width text, record { long = length-take-le width text le; digits = digits }, sym (take-append-drop width text) ∙ ap (λ (t : List ℕ). take width text ++ t) tail, sym number)
+      | inr n ↦ let v = rw n at e in absurd cc
     ]
 
 -- digits and the mark behind them are read
@@ -54,12 +54,12 @@ pub mark-read : (mark : ℕ) (text rest : List ℕ) → after_mark mark text ≡
 mark-read mark [] rest e = absurd cc
 mark-read mark (b ∷ text) rest e =
     elim (cases_Bool (eqb b mark)) [
-      inl y ↦
-        let v = rw y at e in
-        let same : b ≡ mark = grind (arith, nat_tests) in
-        let tail : text ≡ rest = cc in
-        cc
-    | inr n ↦ let v = rw n at e in absurd cc
+      | inl y ↦
+          let v = rw y at e in
+          let same : b ≡ mark = grind (arith, nat_tests) in
+          let tail : text ≡ rest = cc in
+          cc
+      | inr n ↦ let v = rw n at e in absurd cc
     ]
 
 -- what was read as digits and a mark stands at the front of the text

@@ -16,7 +16,7 @@ use Rattle.st_batch.specs.LeapSeconds.{Rise, AreInRange, IsLeapTable}
 use Rattle.st_batch.specs.LeapList.{AreSomeBlanks, SpellsPair, OpensList, SpellsPairs, SpellsList, AssignsTable, AreOther, Lack, AreShort, EndsData, HoldsTable}
 use Rattle.st_batch.specs.LeapListMachine.{passed, pair_line, after_opening, assigns_table, begins_data, begins_text, stage_step, step_of, with_pair, is_closed, pairs_from, is_pair, is_rise, is_table, table_of}
 use Rattle.st_batch.proofs.ScanLaws.{and_then-some, some-same}
-use Rattle.st_batch.proofs.PairLaws.{and-left, and-right}
+use Rattle.st_batch.proofs.Tests.{and-left, and-right}
 use Rattle.st_batch.proofs.LineLaws.{ReadsLine, inner, last, line-spelled, last-spelled, line-read, opening-spelled, opening-read, opening-assigns, assigns-spelled, assigns-read}
 
 -- a test that no fact meets fails, and one that fails meets no fact
@@ -34,8 +34,8 @@ step-short : (stage : Stage) (line : List ℕ) (step : Step) → step_of stage l
 unfolding step_of
 step-short stage line step e =
     elim (cases_Bool (nat_lt 1000 (length line))) [
-      inl y ↦ let v = rw y at e in absurd cc
-    | inr n ↦ (grind (arith, nat_tests), rw n at e)
+      | inl y ↦ let v = rw y at e in absurd cc
+      | inr n ↦ (grind (arith, nat_tests), rw n at e)
     ]
 
 data-line : (line : List ℕ) → line ≡ codes "\\begindata" → begins_data line ≡ true
@@ -118,35 +118,35 @@ after-sound [] pairs e = record { none = sym (some-same [] pairs e); after = [];
 after-sound (line ∷ lines) pairs e =
     let f = first-line After line lines pairs e in
     elim (cases_Bool (begins_text line)) [
-      inl y ↦
-        let r = rest-sound lines pairs (passes Rest f.step lines pairs f.more (rw y at f.does) f.behind f.all) in
-        record {
-          none = r.0;
-          after = [];
-          rest = line ∷ lines;
-          whole = refl;
-          short = (f.short, r.1);
-          lack = tt;
-          others = tt;
-          ends = line-text line y;
-        }
-    | inr n ↦
-        let does = rw n at f.does in
-        elim (cases_Bool (assigns_table line)) [
-          inl y ↦ let v = rw y at does in absurd cc
-        | inr m ↦
-            let a = after-sound lines pairs (passes After f.step lines pairs f.more (rw m at does) f.behind f.all) in
-            record {
-              none = a.none;
-              after = line ∷ a.after;
-              rest = a.rest;
-              whole = ap (λ (t : List (List ℕ)). line ∷ t) a.whole;
-              short = (f.short, a.short);
-              lack = (λ t. false≢true (sym n ∙ text-line line t), a.lack);
-              others = (λ t. false≢true (sym m ∙ assigns-spelled line t), a.others);
-              ends = a.ends;
-            }
-        ]
+      | inl y ↦
+          let r = rest-sound lines pairs (passes Rest f.step lines pairs f.more (rw y at f.does) f.behind f.all) in
+          record {
+            none = r.0;
+            after = [];
+            rest = line ∷ lines;
+            whole = refl;
+            short = (f.short, r.1);
+            lack = tt;
+            others = tt;
+            ends = line-text line y;
+          }
+      | inr n ↦
+          let does = rw n at f.does in
+          elim (cases_Bool (assigns_table line)) [
+            | inl y ↦ let v = rw y at does in absurd cc
+            | inr m ↦
+                let a = after-sound lines pairs (passes After f.step lines pairs f.more (rw m at does) f.behind f.all) in
+                record {
+                  none = a.none;
+                  after = line ∷ a.after;
+                  rest = a.rest;
+                  whole = ap (λ (t : List (List ℕ)). line ∷ t) a.whole;
+                  short = (f.short, a.short);
+                  lack = (λ t. false≢true (sym n ∙ text-line line t), a.lack);
+                  others = (λ t. false≢true (sym m ∙ assigns-spelled line t), a.others);
+                  ends = a.ends;
+                }
+          ]
     ]
 
 -- the list's lines from the second on
@@ -191,13 +191,13 @@ continued line lines pairs more step rec (inner p lead text l t whole is) behind
     let i = rec more (ap (λ (s : Step). pairs_from s.stage lines) (sym is) ∙ behind) in
     let P : List LeapPair → Type 0 = λ ps. Continued line lines ps in
     subst P (sym (all ∙ ap (λ (s : Step). with_pair s.pair more) is))
-      (record { list = i.list; behind = i.behind; whole = i.whole; spelled = cons-spelled p more lead text line i.list l t whole i.spelled; short = i.short; after = i.after })
+    (record { list = i.list; behind = i.behind; whole = i.whole; spelled = cons-spelled p more lead text line i.list l t whole i.spelled; short = i.short; after = i.after })
 continued line lines pairs more step rec (last p lead text blank l t b whole is) behind all =
     let a = after-sound lines more (ap (λ (s : Step). pairs_from s.stage lines) (sym is) ∙ behind) in
     let P : List LeapPair → Type 0 = λ ps. Continued line lines ps in
     let Q : List LeapPair → Type 0 = λ ps. AfterList lines ps in
     subst P (sym (all ∙ ap (λ (s : Step). with_pair s.pair more) is ∙ ap (λ (ps : List LeapPair). p ∷ ps) a.none))
-      (record { list = []; behind = lines; whole = refl; spelled = (lead, text, blank, l, t, b, whole, refl); short = tt; after = subst Q a.none a })
+    (record { list = []; behind = lines; whole = refl; spelled = (lead, text, blank, l, t, b, whole, refl); short = tt; after = subst Q a.none a })
 
 list-sound : (lines : List (List ℕ)) (pairs : List LeapPair) → pairs_from Listing lines ≡ Some pairs → InList lines pairs
 list-sound [] pairs e = absurd cc
@@ -251,40 +251,40 @@ before-sound [] pairs e = absurd cc
 before-sound (line ∷ lines) pairs e =
     let f = first-line Before line lines pairs e in
     elim (cases_Bool (begins_text line)) [
-      inl y ↦ let v = rw y at f.does in absurd cc
-    | inr n ↦
-        let does = rw n at f.does in
-        elim (cases_Bool (assigns_table line)) [
-          inl y ↦
-            let a = and_then-some pair_line (after_opening line) f.step (rw y at does) in
-            let o = opening-read line a.0 a.1 in
-            let c = continued a.0 lines pairs f.more f.step (λ list h. list-sound lines list h) (line-read a.0 f.step a.2) f.behind f.all in
-            let P : List (List ℕ) → Type 0 = λ ls. AreShort ls in
-            record {
-              before = [];
-              list = line ∷ c.list;
-              behind = c.behind;
-              whole = ap (λ (t : List (List ℕ)). line ∷ t) c.whole;
-              short = (f.short, subst P (sym c.whole) (short-append c.list c.behind c.short c.after.short));
-              lack = tt;
-              others = tt;
-              spelled = (o.0, a.0, o.1, o.2, c.spelled);
-              after = c.after;
-            }
-        | inr m ↦
-            let b = before-sound lines pairs (passes Before f.step lines pairs f.more (rw m at does) f.behind f.all) in
-            record {
-              before = line ∷ b.before;
-              list = b.list;
-              behind = b.behind;
-              whole = ap (λ (t : List (List ℕ)). line ∷ t) b.whole;
-              short = (f.short, b.short);
-              lack = (λ t. false≢true (sym n ∙ text-line line t), b.lack);
-              others = (λ t. false≢true (sym m ∙ assigns-spelled line t), b.others);
-              spelled = b.spelled;
-              after = b.after;
-            }
-        ]
+      | inl y ↦ let v = rw y at f.does in absurd cc
+      | inr n ↦
+          let does = rw n at f.does in
+          elim (cases_Bool (assigns_table line)) [
+            | inl y ↦
+                let a = and_then-some pair_line (after_opening line) f.step (rw y at does) in
+                let o = opening-read line a.0 a.1 in
+                let c = continued a.0 lines pairs f.more f.step (λ list h. list-sound lines list h) (line-read a.0 f.step a.2) f.behind f.all in
+                let P : List (List ℕ) → Type 0 = λ ls. AreShort ls in
+                record {
+                  before = [];
+                  list = line ∷ c.list;
+                  behind = c.behind;
+                  whole = ap (λ (t : List (List ℕ)). line ∷ t) c.whole;
+                  short = (f.short, subst P (sym c.whole) (short-append c.list c.behind c.short c.after.short));
+                  lack = tt;
+                  others = tt;
+                  spelled = (o.0, a.0, o.1, o.2, c.spelled);
+                  after = c.after;
+                }
+            | inr m ↦
+                let b = before-sound lines pairs (passes Before f.step lines pairs f.more (rw m at does) f.behind f.all) in
+                record {
+                  before = line ∷ b.before;
+                  list = b.list;
+                  behind = b.behind;
+                  whole = ap (λ (t : List (List ℕ)). line ∷ t) b.whole;
+                  short = (f.short, b.short);
+                  lack = (λ t. false≢true (sym n ∙ text-line line t), b.lack);
+                  others = (λ t. false≢true (sym m ∙ assigns-spelled line t), b.others);
+                  spelled = b.spelled;
+                  after = b.after;
+                }
+          ]
     ]
 
 -- commentary, and the line that begins the data
@@ -309,19 +309,19 @@ front-sound [] pairs e = absurd cc
 front-sound (line ∷ lines) pairs e =
     let f = first-line Commentary line lines pairs e in
     elim (cases_Bool (begins_data line)) [
-      inl y ↦
-        let b = before-sound lines pairs (passes Before f.step lines pairs f.more (rw y at f.does) f.behind f.all) in
-        record { front = []; data_lines = lines; whole = ap (λ (t : List ℕ). t ∷ lines) (line-data line y); short = (f.short, b.short); lack = tt; before = b }
-    | inr n ↦
-        let r = front-sound lines pairs (passes Commentary f.step lines pairs f.more (rw n at f.does) f.behind f.all) in
-        record {
-          front = line ∷ r.front;
-          data_lines = r.data_lines;
-          whole = ap (λ (t : List (List ℕ)). line ∷ t) r.whole;
-          short = (f.short, r.short);
-          lack = (λ t. false≢true (sym n ∙ data-line line t), r.lack);
-          before = r.before;
-        }
+      | inl y ↦
+          let b = before-sound lines pairs (passes Before f.step lines pairs f.more (rw y at f.does) f.behind f.all) in
+          record { front = []; data_lines = lines; whole = ap (λ (t : List ℕ). t ∷ lines) (line-data line y); short = (f.short, b.short); lack = tt; before = b }
+      | inr n ↦
+          let r = front-sound lines pairs (passes Commentary f.step lines pairs f.more (rw n at f.does) f.behind f.all) in
+          record {
+            front = line ∷ r.front;
+            data_lines = r.data_lines;
+            whole = ap (λ (t : List (List ℕ)). line ∷ t) r.whole;
+            short = (f.short, r.short);
+            lack = (λ t. false≢true (sym n ∙ data-line line t), r.lack);
+            before = r.before;
+          }
     ]
 
 -- the tests of a table pass exactly where it is one
@@ -408,25 +408,25 @@ unfolding table_of
 reads bytes pairs e =
     let a = and_then-some _ (pairs_from Commentary (lines_of bytes)) pairs e in
     elim (cases_Bool (is_table a.0)) [
-      inl y ↦
-        let same : a.0 ≡ pairs = some-same a.0 pairs (rw y at a.2) in
-        let f = front-sound (lines_of bytes) a.0 a.1 in
-        let b = f.before in
-        let P : List LeapPair → Type 0 = λ ps. HoldsTable bytes ps in
-        subst P same (record {
-          front = f.front;
-          before = b.before;
-          list = b.list;
-          after = b.after.after;
-          rest = b.after.rest;
-          lines = f.whole ∙ ap (λ (t : List (List ℕ)). f.front ++ (codes "\\begindata" ∷ t)) (b.whole ∙ ap (λ (t : List (List ℕ)). b.before ++ (b.list ++ t)) b.after.whole);
-          short = f.short;
-          commentary = f.lack;
-          data_before = (b.lack, b.others);
-          spelled = b.spelled;
-          data_after = (b.after.lack, b.after.others);
-          ends = b.after.ends;
-          table = passes-table a.0 y;
-        })
-    | inr n ↦ let v = rw n at a.2 in absurd cc
+      | inl y ↦
+          let same : a.0 ≡ pairs = some-same a.0 pairs (rw y at a.2) in
+          let f = front-sound (lines_of bytes) a.0 a.1 in
+          let b = f.before in
+          let P : List LeapPair → Type 0 = λ ps. HoldsTable bytes ps in
+          subst P same (record {
+            front = f.front;
+            before = b.before;
+            list = b.list;
+            after = b.after.after;
+            rest = b.after.rest;
+            lines = f.whole ∙ ap (λ (t : List (List ℕ)). f.front ++ (codes "\\begindata" ∷ t)) (b.whole ∙ ap (λ (t : List (List ℕ)). b.before ++ (b.list ++ t)) b.after.whole);
+            short = f.short;
+            commentary = f.lack;
+            data_before = (b.lack, b.others);
+            spelled = b.spelled;
+            data_after = (b.after.lack, b.after.others);
+            ends = b.after.ends;
+            table = passes-table a.0 y;
+          })
+      | inr n ↦ let v = rw n at a.2 in absurd cc
     ]

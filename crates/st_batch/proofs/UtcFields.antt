@@ -27,19 +27,19 @@ unfolding scaled_of_text
 fraction-read [] n e = (None, tt, refl, sym (some-same 0 n e))
 fraction-read (b ∷ run) n e =
     elim (cases_Bool (eqb b 46)) [
-      inl y ↦
-        let v = rw y at e in
-        let same : b ≡ 46 = grind (arith, nat_tests) in
-        elim (cases_Bool ((nat_le 1 (length run) && nat_le (length run) 12) && are_digits run)) [
-          inl z ↦
-            let w = rw z at v in
-            let low : 1 ≤ length run = grind (arith, nat_tests) in
-            let high : length run ≤ 12 = grind (arith, nat_tests) in
-            let digits : are_digits run ≡ true = grind (arith, nat_tests) in
-            (Some run, (low, high, digits), ap (λ (c : ℕ). c ∷ run) same, sym (some-same _ n w))
-        | inr z ↦ let w = rw z at v in absurd cc
-        ]
-    | inr x ↦ let v = rw x at e in absurd cc
+      | inl y ↦
+          let v = rw y at e in
+          let same : b ≡ 46 = grind (arith, nat_tests) in
+          elim (cases_Bool ((nat_le 1 (length run) && nat_le (length run) 12) && are_digits run)) [
+            | inl z ↦
+                let w = rw z at v in
+                let low : 1 ≤ length run = grind (arith, nat_tests) in
+                let high : length run ≤ 12 = grind (arith, nat_tests) in
+                let digits : are_digits run ≡ true = grind (arith, nat_tests) in
+                (Some run, (low, high, digits), ap (λ (c : ℕ). c ∷ run) same, sym (some-same _ n w))
+            | inr z ↦ let w = rw z at v in absurd cc
+          ]
+      | inr x ↦ let v = rw x at e in absurd cc
     ]
 
 -- the numbers of the parts
@@ -74,7 +74,7 @@ joined t0 t1 t2 t3 t4 t5 t6 y m d h n s e0 e1 e2 e3 e4 e5 = cc
 -- equal numbers make equal fields
 same_fields : (y y' m m' d d' h h' n n' s s' u u' : ℕ) → y ≡ y' → m ≡ m' → d ≡ d' → h ≡ h' → n ≡ n' → s ≡ s' → u ≡ u'
     → ◌≡◌ {A = Fields} (record { year = y; month = m; day = d; hour = h; minute = n; second = s; fraction = u })
-      (record { year = y'; month = m'; day = d'; hour = h'; minute = n'; second = s'; fraction = u' })
+    (record { year = y'; month = m'; day = d'; hour = h'; minute = n'; second = s'; fraction = u' })
 same_fields y y' m m' d d' h h' n n' s s' u u' ey em ed eh en es eu =
     λ i. record { year = ey i; month = em i; day = ed i; hour = eh i; minute = en i; second = es i; fraction = eu i }
 
@@ -97,8 +97,9 @@ fields-read text f e =
     let n = field-read 2 58 a3.0.1 a4.0.0 a4.0.1 a4.1 in
     let s = digits-read 2 a4.0.1 a5.0.0 a5.0.1 a5.1 in
     let u = fraction-read a5.0.1 a6.0 a6.1 in
-    let whole = joined text a0.0.1 a1.0.1 a2.0.1 a3.0.1 a4.0.1 (pointed u.0) y.0 m.0 d.0 h.0 n.0 s.0 y.2 m.2 d.2 h.2 n.2 (s.2 ∙ ap (λ (t : List ℕ). s.0 ++ t) u.2) in
-    (record { year = y.0; month = m.0; day = d.0; hour = h.0; minute = n.0; second = s.0; decimals = u.0 },
+    let whole = joined text a0.0.1 a1.0.1 a2.0.1 a3.0.1 a4.0.1 (pointed u.0) y.0 m.0 d.0 h.0 n.0 s.0 y.2 m.2 d.2 h.2 n.2 (s.2 ∙ ap (λ (t : List ℕ). s.0 ++ t) u.2) in (
+      record { year = y.0; month = m.0; day = d.0; hour = h.0; minute = n.0; second = s.0; decimals = u.0 },
       record { year = y.1; month = m.1; day = d.1; hour = h.1; minute = n.1; second = s.1; decimals = u.1 },
       whole,
-      sym (some-same _ f a6.2) ∙ same_fields _ _ _ _ _ _ _ _ _ _ _ _ _ _ y.3 m.3 d.3 h.3 n.3 s.3 u.3)
+      sym (some-same _ f a6.2) ∙ same_fields _ _ _ _ _ _ _ _ _ _ _ _ _ _ y.3 m.3 d.3 h.3 n.3 s.3 u.3,
+    )

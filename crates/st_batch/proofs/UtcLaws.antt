@@ -13,19 +13,9 @@ use Rattle.st_text.specs.Bytes.{number_of}
 use Rattle.st_batch.specs.declared.utc_time.Fields.{Fields}
 use Rattle.st_batch.specs.UtcTime.{TimeParts, AreTimeParts, spelling, units_of_day, Names, IsUtcTime}
 use Rattle.st_batch.specs.UtcTimeMachine.{fields_of_text, units_of_fields, are_of_day, is_in_range, label_of_fields, utc_of_text}
+use Rattle.st_batch.proofs.Tests.{and-left, and-right, tested, passed}
 use Rattle.st_batch.proofs.ScanLaws.{and_then-some, some-same}
 use Rattle.st_batch.proofs.UtcFields.{fields_of, fields-spelled, fields-read}
-
--- a number in a range passes the test of it, and what passes is in the range
-tested : (low high z : ℤ) → low ≤ℤ z → z ≤ℤ high → (int_le low z && int_le z high) ≡ true
-tested low high z from to = grind (arith, ints)
-
-passed : (low high z : ℤ) → (int_le low z && int_le z high) ≡ true → (low ≤ℤ z) × (z ≤ℤ high)
-passed low high z e = grind (arith, ints)
-
-both : (x y : Bool) → (x && y) ≡ true → (x ≡ true) × (y ≡ true)
-both true y e = (refl, e)
-both false y e = absurd cc
 
 -- what the parts name is found
 found : (p : TimeParts) (label : Label) → Names p label → label_of_fields (fields_of p) (day_number (number_of p.year) (number_of p.month) (number_of p.day)) ≡ label
@@ -37,7 +27,7 @@ only text label (p, h, e, n) =
     let at = found p label n in
     let hours : are_of_day (fields_of p) ≡ true = grind (arith, nat_tests, n.hour, n.minute, n.second) in
     let range : is_in_range (label_of_fields (fields_of p) (day_number (number_of p.year) (number_of p.month) (number_of p.day))) ≡ true =
-      ap is_in_range at ∙ tested FIRST LAST (formal label) n.from n.to in
+    ap is_in_range at ∙ tested FIRST LAST (formal label) n.from n.to in
     rw e (rw (fields-spelled p h) (rw (there _ _ _ n.exists) (rw (hours, range) (ap Some at))))
 
 -- fields that make a label on a day
@@ -50,9 +40,10 @@ record Make (f : Fields) (day : ℤ) (label : Label) : Type 0 where
 -- parts whose numbers make a label name it
 named : (p : TimeParts) (day : ℤ) (label : Label) → Make (fields_of p) day label → Names p label
 named p day label m =
-    let t = both (are_of_day (fields_of p)) (is_in_range (label_of_fields (fields_of p) day)) m.tests in
-    let within : is_in_range label ≡ true = sym (ap is_in_range m.same) ∙ t.1 in
-    let hours = t.0 in
+    let of_day = are_of_day (fields_of p) in
+    let made = is_in_range (label_of_fields (fields_of p) day) in
+    let within : is_in_range label ≡ true = sym (ap is_in_range m.same) ∙ and-right of_day made m.tests in
+    let hours = and-left of_day made m.tests in
     let range = passed FIRST LAST (formal label) within in
     record {
       exists = m.exists;
@@ -73,11 +64,11 @@ reads text label e =
     let f = fields-read text a.0 a.1 in
     let d = there_only a.0.year a.0.month a.0.day b.0 b.1 in
     elim (cases_Bool (are_of_day a.0 && is_in_range (label_of_fields a.0 b.0))) [
-      inl y ↦
-        let made : Make a.0 b.0 label = record { exists = d.0; number = d.1; tests = y; same = some-same _ label (rw y at b.2) } in
-        let P : Fields → Type 0 = λ g. Make g b.0 label in
-        (f.0, f.1, f.2, named f.0 b.0 label (subst P f.3 made))
-    | inr n ↦ let v = rw n at b.2 in absurd cc
+      | inl y ↦
+          let made : Make a.0 b.0 label = record { exists = d.0; number = d.1; tests = y; same = some-same _ label (rw y at b.2) } in
+          let P : Fields → Type 0 = λ g. Make g b.0 label in
+          (f.0, f.1, f.2, named f.0 b.0 label (subst P f.3 made))
+      | inr n ↦ let v = rw n at b.2 in absurd cc
     ]
 
 -- what the reading answers: the label of a UTC time, or nothing where the text is none

@@ -1,10 +1,11 @@
 -- A setup file that lists leap seconds as NAIF's leapseconds kernels do, in the layout of `naif.tls`:
 -- one assignment of DELTET/DELTA_AT to a list in parentheses, a pair to a line.
-use Rattle.std.specs.Prelude.{◌≡◌, ◌≢◌, ℕ, ◌≤◌, Result, Ok, IsTrue, List, [], ◌∷◌, ◌++◌, length, codes}
+use Rattle.std.specs.Prelude.{◌≡◌, ◌≢◌, ℕ, ◌≤◌, ℤ, IsTrue, List, [], ◌∷◌, ◌++◌, length, codes}
 use Rattle.st_text.specs.Bytes.{is_blank, are_blanks}
 use Rattle.st_text.specs.Bytes.{are_digits, number_of}
 use Rattle.st_text.specs.Lines.{lines_of, skip_blanks}
-use Rattle.st_dates.specs.AtDate.{ReadsAtDate}
+use Rattle.st_dates.specs.AtDate.{moment, IsInRange}
+use Rattle.st_dates.specs.DayText.{AreDayParts, IsDayOf, named, day_spelling}
 use Rattle.st_batch.specs.declared.leap_seconds.LeapPair.{LeapPair}
 use Rattle.st_batch.specs.LeapSeconds.{IsLeapTable}
 
@@ -12,11 +13,24 @@ use Rattle.st_batch.specs.LeapSeconds.{IsLeapTable}
 abbrev pub AreSomeBlanks : List ℕ → Type 0
 AreSomeBlanks text = (1 ≤ length text) × IsTrue (are_blanks text)
 
+-- A day of the calendar from 1900 to 2100 as `YYYY-MON-D`: a year of four digits, a month's name or its first
+-- three letters, and a day of one or two digits. `from` is the formal value of its midnight.
+pub record IsListDate (text : List ℕ) (from : ℤ) : Type 0 where
+  pub year : List ℕ
+  pub name : List ℕ
+  pub day : List ℕ
+  pub number : ℤ
+  pub parts : AreDayParts (named year name day)
+  pub exists : IsDayOf (named year name day) number
+  pub at : from ≡ moment number 0
+  pub in_range : IsInRange from
+  pub whole : text ≡ day_spelling (named year name day)
+
 -- a count of 1 to 4 digits, a comma, a blank, `@` and a date, as `10, @1972-JAN-1`
 abbrev pub SpellsPair : LeapPair → List ℕ → Type 0
 SpellsPair pair text =
     (count date : List ℕ) × (1 ≤ length count) × (length count ≤ 4) × IsTrue (are_digits count)
-    × (pair.count ≡ number_of count) × ReadsAtDate date (Ok pair.from) × (text ≡ count ++ (codes ", @" ++ date))
+    × (pair.count ≡ number_of count) × IsListDate date pair.from × (text ≡ count ++ (codes ", @" ++ date))
 
 -- Lines that spell the pairs one by one: blanks and a pair, and at the last a blank and `)` (41) more.
 abbrev pub SpellsPairs : List LeapPair → List (List ℕ) → Type 0

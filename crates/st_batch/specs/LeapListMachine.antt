@@ -1,14 +1,14 @@
 -- The reading of the setup file line by line, as the code does it.
-use Rattle.std.specs.Prelude.{◌≡◌, ℕ, ◌+◌, ◌-◌, Bool, true, false, ◌&&◌, ◌||◌, ◌==◌, nat_lt, nat_le, Result, Ok, Err, Option, Some, None, option_and_then, if◌then◌else◌, List, [], ◌∷◌, ◌++◌, length, take, slice_index, codes, bytes_eq, ℤ, ◌≤ℤ◌, int_le, ◌<ℤ◌, int_lt}
+use Rattle.std.specs.Prelude.{◌≡◌, ℕ, ◌+◌, ◌-◌, Bool, true, false, ◌&&◌, ◌||◌, ◌==◌, nat_lt, nat_le, Option, Some, None, option_and_then, if◌then◌else◌, List, [], ◌∷◌, ◌++◌, length, take, slice_index, codes, bytes_eq, ℤ, ◌≤ℤ◌, int_le, ◌<ℤ◌, int_lt}
 use Rattle.std.specs.List.{list_all}
 use Rattle.st_text.specs.Bytes.{is_blank}
 use Rattle.st_text.specs.Lines.{lines_of, skip_blanks}
-use Rattle.st_dates.specs.AtDateMachine.{at_date_of}
 use Rattle.st_dates.specs.declared.label.TheConstants.{FIRST, LAST}
 use Rattle.st_batch.specs.declared.leap_list.Stage.{Stage}
 use Rattle.st_batch.specs.declared.leap_list.Stage.TheVariants.{Commentary, Before, Listing, After, Rest}
 use Rattle.st_batch.specs.declared.leap_list.Step.{Step}
 use Rattle.st_batch.specs.declared.leap_seconds.LeapPair.{LeapPair}
+use Rattle.st_batch.specs.ListDateMachine.{list_date_of}
 use Rattle.st_batch.specs.ScanMachine.{after_mark, field_of_text, after_word, after_blanks}
 use Rattle.st_batch.specs.UtcTimeMachine.{◌>>=◌}
 
@@ -27,16 +27,12 @@ comma_place text =
     if slice_index text 1 == 44 then 1
     else (if slice_index text 2 == 44 then 2 else (if slice_index text 3 == 44 then 3 else 4))
 
-abbrev pub ok_of : {A E : Type 0} → Result A E → Option A
-ok_of (Ok x) = Some x
-ok_of (Err e) = None
-
 -- the pair that a text is
 unfoldable pub pair_of_text : List ℕ → Option LeapPair
 pair_of_text text = do
   count ← field_of_text text (comma_place text) 44
   date ← after_word (codes " @") count.1
-  from ← ok_of (at_date_of date)
+  from ← list_date_of date
   Some (record { count = count.0; from = from })
 
 -- a line of the list, behind what opens it
@@ -44,7 +40,7 @@ unfoldable pub pair_line : List ℕ → Option Step
 pair_line line = do
   text ← after_blanks line
   (if closes text then (pair_of_text (take (length text - 2) text) >>= (λ pair. Some (record { stage = After; pair = Some pair })))
-   else (pair_of_text text >>= (λ pair. Some (record { stage = Listing; pair = Some pair }))))
+      else (pair_of_text text >>= (λ pair. Some (record { stage = Listing; pair = Some pair }))))
 
 -- the text behind `DELTET/DELTA_AT`, blanks, `=`, blanks and `(`
 unfoldable pub after_opening : List ℕ → Option (List ℕ)

@@ -1,5 +1,5 @@
 -- Leap seconds, by the header of NAIF's leapseconds kernels and the Time Required Reading.
-use Rattle.std.specs.Prelude.{◌≡◌, ℕ, ◌+◌, ◌*◌, ◌≤◌, ℤ, pos, negsuc, ◌+ℤ◌, ◌-ℤ◌, ◌*ℤ◌, ◌≤ℤ◌, ◌<ℤ◌, int_le, List, [], ◌∷◌, length, filter}
+use Rattle.std.specs.Prelude.{◌≡◌, ℕ, ◌+◌, ◌*◌, ◌≤◌, ℤ, pos, negsuc, ◌+ℤ◌, ◌-ℤ◌, ◌*ℤ◌, ◌≤ℤ◌, ◌<ℤ◌, int_le, List, [], ◌∷◌, length, reverse, find, Option, Some, None}
 use Rattle.st_dates.specs.Label.{formal}
 use Rattle.st_dates.specs.declared.label.Label.{Label}
 use Rattle.st_dates.specs.declared.label.TheConstants.{FIRST, LAST}
@@ -23,19 +23,23 @@ pub record IsLeapTable (pairs : List LeapPair) : Type 0 where
   pub in_range : AreInRange pairs
   pub rise : Rise pairs
 
--- the count of the last pair, or `otherwise` where there is none
-abbrev pub last_count : ℤ → List LeapPair → ℤ
-last_count otherwise [] = otherwise
-last_count otherwise (p ∷ pairs) = last_count (pos p.count) pairs
-
 -- the count before the first pair: the first count less one
 abbrev pub count_before : List LeapPair → ℤ
 count_before [] = pos 0
 count_before (p ∷ pairs) = pos p.count -ℤ pos 1
 
+-- the last pair whose date is at most a midnight
+abbrev pub last_pair : List LeapPair → ℤ → Option LeapPair
+last_pair pairs midnight = find (λ p. int_le p.from midnight) (reverse pairs)
+
+-- the count of a pair, or another where there is none
+abbrev pub count_or : ℤ → Option LeapPair → ℤ
+count_or otherwise None = otherwise
+count_or otherwise (Some p) = pos p.count
+
 -- TAI minus UTC on a day, in seconds: the count of the last pair whose date is at most the day
 abbrev pub count_on : List LeapPair → ℤ → ℤ
-count_on pairs midnight = last_count (count_before pairs) (filter (λ p. int_le p.from midnight) pairs)
+count_on pairs midnight = count_or (count_before pairs) (last_pair pairs midnight)
 
 -- the formal value of the start of the label's day
 abbrev pub midnight_of : Label → ℤ

@@ -1,9 +1,14 @@
+pub mod Causes
+pub mod Laws
 pub mod LeapList
 pub mod LeapListMachine
 pub mod LeapSeconds
+pub mod ListDateMachine
 pub mod Load
 pub mod Outcome
+pub mod Prepared
 pub mod ScanMachine
+pub mod Setup
 pub mod Taken
 pub mod Texts
 pub mod UtcTime

@@ -8,8 +8,8 @@ ghost use Rattle.st_batch.specs.declared.leap_seconds.LeapPair.{LeapPair};
 ghost use Rattle.st_text.specs.Lines.{lines_of};
 
 use crate::leap_seconds::{LeapPair, is_table};
+use crate::list_date::read_list_date;
 use crate::scan::{after_blanks, after_mark, after_word, field};
-use st_dates::read_at_date;
 use st_decimal::OutOfMemory;
 use st_text::{is_blank, skip_blanks, split_line, without_cr};
 use std::alloc::Global;
@@ -137,13 +137,10 @@ fn pair_of_text(text: &[u8]) -> Option<LeapPair>
 {
     let (count, rest) = field(text, comma_place(text), b',')?;
     let date = after_word(rest, b" @")?;
-    match read_at_date(date) {
-        Ok(from) => Some(LeapPair {
-            count: count as u32,
-            from,
-        }),
-        Err(_) => None,
-    }
+    Some(LeapPair {
+        count: count as u32,
+        from: read_list_date(date)?,
+    })
 }
 
 /// How many bytes stand before the first comma, from 1 to 4.
@@ -227,11 +224,10 @@ pub fn read_table(alloc: Global, bytes: &[u8]) -> Result<Vec<LeapPair>, TableFau
     ensures not_table { IsErrOf result TableFault.NotTable
         → (table : List LeapPair) → HoldsTable bytes.now table → ⊥ }
 {
-    let pairs = read_pairs(alloc, bytes)?;
-    if is_table(pairs.as_slice()) {
-        Ok(pairs)
-    } else {
-        Err(TableFault::NotTable)
+    match read_pairs(alloc, bytes) {
+        Ok(pairs) if is_table(pairs.as_slice()) => Ok(pairs),
+        Ok(_) => Err(TableFault::NotTable),
+        Err(fault) => Err(fault),
     }
 }
 

@@ -1,9 +1,9 @@
 //! Leap seconds: the rules of a table, and what a UTC label is in TAI.
 
-ghost use Rattle.std.specs.Prelude.{◌≡◌, ◌≤ℤ◌, neg_ℤ, pos};
+ghost use Rattle.std.specs.Prelude.{◌≡◌, ◌^◌, ◌≤ℤ◌, ◌+ℤ◌, ◌*ℤ◌, neg_ℤ, pos};
 ghost use Rattle.std.specs.List.{list_all};
 ghost use Rattle.st_batch.specs.LeapListMachine as machine;
-ghost use Rattle.st_batch.specs.LeapSeconds.{IsLeapTable, IsOfDay};
+ghost use Rattle.st_batch.specs.LeapSeconds.{IsOfDay};
 ghost use Rattle.st_batch.specs.LeapSeconds as table;
 ghost use Rattle.st_dates.specs.Label.{formal};
 ghost use Rattle.st_dates.specs.declared.label.TheConstants as range;
@@ -71,37 +71,45 @@ fn rises(first: LeapPair, second: LeapPair) -> bool
 }
 
 /// The count before the first pair: the first count less one.
-fn count_before(pairs: &[LeapPair]) -> i128
-    requires { IsLeapTable pairs.now }
+fn count_before(pairs: &[LeapPair]) -> i64
     ensures value { result ≡ table.count_before pairs.now }
     ensures from { neg_ℤ (pos 1) ≤ℤ result }
-    ensures to { result ≤ℤ pos 1000 }
+    ensures to { result ≤ℤ pos (2 ^ 32) }
 {
     match pairs {
         [] => 0,
-        [first, ..] => i128::from(first.count) - 1,
+        [first, ..] => i64::from(first.count) - 1,
     }
 }
 
+/// The last pair whose date is at most this midnight.
+fn last_pair(pairs: &[LeapPair], midnight: i128) -> Option<LeapPair>
+    ensures { result ≡ table.last_pair pairs.now midnight }
+{
+    let mut left = pairs;
+    while let [before @ .., last] = left {
+        if last.from <= midnight {
+            return Some(*last);
+        }
+        left = before;
+    }
+    None
+}
+
 /// TAI minus UTC on the day of this midnight, in seconds.
-fn count_on(pairs: &[LeapPair], midnight: i128) -> i128
-    requires { IsLeapTable pairs.now }
+fn count_on(pairs: &[LeapPair], midnight: i128) -> i64
     ensures value { result ≡ table.count_on pairs.now midnight }
     ensures from { neg_ℤ (pos 1) ≤ℤ result }
-    ensures to { result ≤ℤ pos 1000 }
+    ensures to { result ≤ℤ pos (2 ^ 32) }
 {
-    let mut count = count_before(pairs);
-    for pair in pairs {
-        if pair.from <= midnight {
-            count = i128::from(pair.count);
-        }
+    match last_pair(pairs, midnight) {
+        Some(pair) => i64::from(pair.count),
+        None => count_before(pairs),
     }
-    count
 }
 
 /// TAI of a UTC label in units of 10^-18 s past J2000: its formal value and the count of its day.
 pub fn tai_of(pairs: &[LeapPair], label: Label) -> i128
-    requires table { IsLeapTable pairs.now }
     requires from { range.FIRST ≤ℤ formal label }
     requires to { formal label ≤ℤ range.LAST }
     requires of_day { IsOfDay label }
@@ -111,5 +119,16 @@ pub fn tai_of(pairs: &[LeapPair], label: Label) -> i128
         day: label.day,
         of_day: 0,
     });
-    formal_of(label) + count_on(pairs, midnight) * SECOND
+    later_by(formal_of(label), count_on(pairs, midnight))
+}
+
+/// A time this many seconds later.
+fn later_by(time: i128, seconds: i64) -> i128
+    requires time_from { range.FIRST ≤ℤ time }
+    requires time_to { time ≤ℤ range.LAST }
+    requires from { neg_ℤ (pos 1) ≤ℤ seconds }
+    requires to { seconds ≤ℤ pos (2 ^ 32) }
+    ensures { result ≡ time +ℤ (seconds *ℤ pos 1_000_000_000_000_000_000) }
+{
+    time + seconds as i128 * SECOND
 }

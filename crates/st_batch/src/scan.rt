@@ -35,7 +35,6 @@ pub fn field(text: &[u8], width: usize, mark: u8) -> Option<(u64, &[u8])>
     }
 }
 
-
 /// The text behind a word, where it begins with it.
 #[tactic(auto, unfolding(crate::specs::ScanMachine::after_word))]
 pub fn after_word<'a>(text: &'a [u8], word: &[u8]) -> Option<&'a [u8]>

@@ -17,6 +17,7 @@ const SECOND: i128 = 1_000_000_000_000_000_000;
 
 /// 1900-01-01 and 2100-01-01, in days past 2000-01-01.
 const FIRST_DAY: i32 = -36_524;
+
 const LAST_DAY: i32 = 36_525;
 
 /// The numbers that stand in a time's text; the fraction in units of 10^-18 s.
@@ -94,11 +95,7 @@ fn find_utc(text: &[u8]) -> Option<Label>
     ensures of_day { IfSome result IsOfDay }
 {
     let fields = read_fields(text)?;
-    let day = day_of(
-        fields.year as i32,
-        fields.month as u32,
-        fields.day as u32,
-    )?;
+    let day = day_of(fields.year as i32, fields.month as u32, fields.day as u32)?;
     if !are_of_day(fields) {
         return None;
     }

@@ -18,12 +18,12 @@ pub fn read_words(words: &[String]) -> Option<Job<'_>>
     match words {
         [setup, name, from, source, to, target, time, text]
             if are_options(setup, from, to, time) && are_systems(source, target) && is_name(name) =>
-        {
-            Some(Job {
-                setup: name.as_bytes(),
-                time: text.as_bytes(),
-            })
-        }
+            {
+                Some(Job {
+                    setup: name.as_bytes(),
+                    time: text.as_bytes(),
+                })
+            }
         _ => None,
     }
 }
@@ -31,7 +31,10 @@ pub fn read_words(words: &[String]) -> Option<Job<'_>>
 fn are_options(setup: &String, from: &String, to: &String, time: &String) -> bool
     ensures { result ≡ are_options (string_bytes setup.now) (string_bytes from.now) (string_bytes to.now) (string_bytes time.now) }
 {
-    setup.as_str() == "-setup" && from.as_str() == "-from" && to.as_str() == "-to" && time.as_str() == "-time"
+    setup.as_str() == "-setup"
+        && from.as_str() == "-from"
+        && to.as_str() == "-to"
+        && time.as_str() == "-time"
 }
 
 fn are_systems(source: &String, target: &String) -> bool

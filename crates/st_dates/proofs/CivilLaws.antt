@@ -1,14 +1,13 @@
 -- Dates lie in the order of their numbers, so a number has one date.
-use Rattle.std.proofs.Common.{◌≡◌, ℕ, zero, suc, ◌+◌, ◌-◌, ◌%◌, ◌<◌, ◌≤◌, ◌⊎◌, inl, inr, refl, sym, ap, ◌∙◌, arith, ℤ, pos, negsuc, neg_ℤ, ◌+ℤ◌, ◌-ℤ◌, ◌<ℤ◌, ◌≤ℤ◌, unsigned_abs, FitsSigned, to_z, of_z, to_z-of_z, w16, w32}
+use Rattle.std.proofs.Common.{◌≡◌, ℕ, zero, suc, ◌+◌, ◌-◌, ◌%◌, ◌<◌, ◌≤◌, inl, inr, refl, sym, ap, ◌∙◌, arith, ℤ, pos, neg_ℤ, ◌+ℤ◌, ◌≤ℤ◌, unsigned_abs, FitsSigned, to_z, of_z, to_z-of_z, w16, w32}
 use Rattle.std.proofs.lemmas.Bool.{cases_order}
 use Rattle.std.proofs.lemmas.Int.{by_lt_z}
-use Rattle.std.specs.Int.{int_rem_euclid}
-use Rattle.jiff_core.specs.Calendar.{days_in_month, days_in_year, day_count, days_from_civil, weekday_number, IsYear, IsCivilDate}
-use Rattle.jiff_core.specs.Calendar.{days_of_months as jiff_months, day_of_year as jiff_place}
+use Rattle.jiff_core.specs.Calendar.{days_in_month, day_count, days_from_civil, weekday_number, IsYear, IsCivilDate}
+use Rattle.jiff_core.specs.Calendar.{day_of_year as jiff_place}
 use Rattle.jiff_core.proofs.CalendarLemmas.{days_from_civil-day_count, day_count-lt_year, days_of_months_all, day_of_year_before, weekday_number-parts}
 use Rattle.jiff_core.proofs.MarchLemmas.{day_count-early}
 use Rattle.jiff_core.proofs.SignedLemmas.{signed_arith, signed_casts, one_part}
-use Rattle.st_dates.specs.Calendar.{year_length, month_length, days_before_year, days_of_months, day_number, number_in_year, IsCalendarDay}
+use Rattle.st_dates.specs.Calendar.{year_length, days_before_year, days_of_months, day_number, number_in_year, IsCalendarDay}
 use Rattle.st_dates.specs.Civil.{day_of_year, weekday_of, IsCivil}
 use Rattle.st_dates.specs.declared.civil.Civil.{Civil}
 use Rattle.st_dates.proofs.DayLemmas.{year, month, months, from_1970, magnitude}

@@ -13,7 +13,8 @@ use Rattle.st_dates.specs.declared.day_text.CalendarDate.{CalendarDate}
 use Rattle.st_dates.specs.declared.fault.DateFault.{DateFault}
 use Rattle.st_dates.specs.declared.fault.DateFault.TheVariants.{Form, NoSuchDay, OutOfRange}
 use Rattle.st_dates.specs.declared.label.TheConstants.{FIRST, LAST}
-use Rattle.st_dates.proofs.DayForms.{day_in, day_found, day_is_found, day_read, day_cut}
+use Rattle.st_dates.proofs.DayCuts.{day_cut}
+use Rattle.st_dates.proofs.DayForms.{day_in, day_found, day_is_found, day_read}
 use Rattle.st_dates.proofs.Scans.{some_same, bound}
 use Rattle.st_dates.proofs.TimeCuts.{time_cut}
 use Rattle.st_dates.proofs.TimeForms.{time_read, time_stops}

@@ -1,6 +1,7 @@
 pub mod CalendarLaws
 pub mod CivilLaws
 pub mod DateLaws
+pub mod DayCuts
 pub mod DayForms
 pub mod DayLemmas
 mod Examples

@@ -1,5 +1,5 @@
 -- A text that was read to a time is one of its forms.
-use Rattle.std.proofs.Common.{◌≡◌, ℕ, true, false, ◌==◌, ◌&&◌, ◌||◌, ◌≤◌, ◌+◌, ◌-◌, ◌*◌, ◌^◌, ◌⊎◌, nat_le, inl, inr, refl, sym, ap, ◌∙◌, subst, arith, List, [], ◌∷◌, ◌++◌, length, Option, Some, None}
+use Rattle.std.proofs.Common.{◌≡◌, ℕ, true, ◌==◌, ◌&&◌, ◌||◌, ◌+◌, ◌-◌, ◌*◌, ◌^◌, ◌⊎◌, nat_le, inl, inr, refl, sym, ap, ◌∙◌, arith, List, [], ◌∷◌, ◌++◌, length, Option, Some}
 use Rattle.std.proofs.lemmas.Bool.{cases_Bool, or_cases}
 use Rattle.std.proofs.lemmas.Bool.Decides.{nat_tests}
 use Rattle.std.proofs.lemmas.List.{append-nil}
@@ -8,7 +8,7 @@ use Rattle.std.specs.Prelude.{codes}
 use Rattle.st_text.specs.Bytes.{number_of}
 use Rattle.st_dates.specs.DayText.{AreDigits}
 use Rattle.st_dates.specs.ScanMachine.{◌>>=◌, digits, past_digits, after, is_digits}
-use Rattle.st_dates.specs.TimeText.{Clock, minutes, seconds, decimals, clock_spelling, IsField, AreClockParts, units_of, clock_units, IsMark, TimeText, midnight, after_mark, time_spelling, AreTimeParts, time_units}
+use Rattle.st_dates.specs.TimeText.{Clock, minutes, seconds, decimals, clock_spelling, IsField, AreClockParts, clock_units, IsMark, TimeText, midnight, after_mark, time_spelling, AreTimeParts, time_units}
 use Rattle.st_dates.specs.TimeTextMachine.{field, decimal_units, second_units, clock_of, past_slash, past_mark, time_of_text}
 use Rattle.st_dates.proofs.Runs.{joined, head_passes, tail_passes}
 use Rattle.st_dates.proofs.Scans.{some_same, bound, after_is, digits_tested}
@@ -75,6 +75,20 @@ decimal_cut : (text : List ℕ) (u : ℕ) → decimal_units text ≡ Some u → 
 decimal_cut [] u e = inl (refl, some_same u 0 (sym e ∙ decimals_none))
 decimal_cut (b ∷ t) u e = inr (point_cut b t u e)
 
+second_sum : (s part u : ℕ) (text : List ℕ) → ◌≡◌ {A = Option ℕ} (Some (s * 10 ^ 18 + part)) (Some u) → s ≡ number_of text → u ≡ number_of text * 10 ^ 18 + part
+second_sum s part u text e f =
+    sym (some_same (s * 10 ^ 18 + part) u e) ∙ ap (λ (n : ℕ). n * 10 ^ 18 + part) f
+
+minute_sum : (h m s u : ℕ) (hour minute : List ℕ) → ◌≡◌ {A = Option ℕ} (Some ((3600 * h + 60 * m) * 10 ^ 18 + s)) (Some u) → h ≡ number_of hour → m ≡ number_of minute → u ≡ (3600 * number_of hour + 60 * number_of minute) * 10 ^ 18 + s
+minute_sum h m s u hour minute e f g =
+    sym (some_same ((3600 * h + 60 * m) * 10 ^ 18 + s) u e)
+    ∙ ap (λ (n : ℕ). (3600 * n + 60 * m) * 10 ^ 18 + s) f
+    ∙ ap (λ (n : ℕ). (3600 * number_of hour + 60 * n) * 10 ^ 18 + s) g
+
+glued_clock : (text hour rest t minute tail : List ℕ) → text ≡ hour ++ rest → rest ≡ 58 ∷ t → t ≡ minute ++ tail → text ≡ hour ++ (58 ∷ (minute ++ tail))
+glued_clock text hour rest t minute tail e f g =
+    e ∙ ap (λ (v : List ℕ). hour ++ v) (f ∙ ap (λ (v : List ℕ). 58 ∷ v) g)
+
 -- seconds with what follows them
 record SecondCut (text : List ℕ) (u : ℕ) : Type 0 where
   second : List ℕ
@@ -102,7 +116,7 @@ colon_cut b t u e =
       whole = after_is 58 (b ∷ t) a.0 a.1 ∙ ap (λ (v : List ℕ). 58 ∷ v) cut.whole;
       part = d.0;
       part_read = d.1;
-      units = sym (some_same (f.0.0 * 10 ^ 18 + d.0) u d.2) ∙ ap (λ (n : ℕ). n * 10 ^ 18 + d.0) cut.number;
+      units = second_sum f.0.0 d.0 u cut.part d.2 cut.number;
     }
 
 second_cut : (text : List ℕ) (u : ℕ) → second_units text ≡ Some u → ((text ≡ []) × (u ≡ 0)) ⊎ SecondCut text u
@@ -140,10 +154,10 @@ minute_cut text u e =
       hour_field = hour.is_field;
       minute_field = minute.is_field;
       rest = m.0.1;
-      whole = hour.whole ∙ ap (λ (v : List ℕ). hour.part ++ v) (after_is 58 h.0.1 a.0 a.1 ∙ ap (λ (v : List ℕ). 58 ∷ v) minute.whole);
+      whole = glued_clock text hour.part h.0.1 a.0 minute.part m.0.1 hour.whole (after_is 58 h.0.1 a.0 a.1) minute.whole;
       seconds_of = s.0;
       seconds_read = s.1;
-      units = sym (some_same ((3600 * h.0.0 + 60 * m.0.0) * 10 ^ 18 + s.0) u s.2) ∙ ap (λ (n : ℕ). (3600 * n + 60 * m.0.0) * 10 ^ 18 + s.0) hour.number ∙ ap (λ (n : ℕ). (3600 * number_of hour.part + 60 * n) * 10 ^ 18 + s.0) minute.number;
+      units = minute_sum h.0.0 m.0.0 s.0 u hour.part minute.part s.2 hour.number minute.number;
     }
 
 record ClockCut (text : List ℕ) (u : ℕ) : Type 0 where

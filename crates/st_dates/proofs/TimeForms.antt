@@ -1,18 +1,14 @@
 -- A time is read from a text exactly where the text is one of its forms.
-use Rattle.std.proofs.Common.{◌≡◌, ℕ, true, false, ◌==◌, ◌&&◌, ◌||◌, ◌≢◌, ◌≤◌, ◌+◌, ◌-◌, ◌*◌, ◌^◌, ◌⊎◌, nat_le, inl, inr, refl, sym, ap, ◌∙◌, subst, arith, List, [], ◌∷◌, ◌++◌, length, Option, Some, None}
-use Rattle.std.proofs.lemmas.Bool.{cases_Bool, or_cases}
+use Rattle.std.proofs.Common.{◌≡◌, ℕ, true, false, ◌==◌, ◌≤◌, ◌+◌, ◌-◌, ◌*◌, ◌^◌, nat_le, inl, inr, refl, sym, ap, ◌∙◌, subst, arith, List, [], ◌∷◌, ◌++◌, length, Option, Some, None}
 use Rattle.std.proofs.lemmas.Bool.Decides.{nat_tests}
 use Rattle.std.proofs.lemmas.List.{append-nil}
 use Rattle.std.specs.Char.{is_ascii_digit}
-use Rattle.std.specs.List.{list_all}
-use Rattle.std.specs.Prelude.{codes}
 use Rattle.st_text.specs.Bytes.{are_digits, number_of}
 use Rattle.st_dates.specs.DayText.{AreDigits}
-use Rattle.st_dates.specs.ScanMachine.{◌>>=◌, digits, past_digits, after, is_digits}
 use Rattle.st_dates.specs.TimeText.{Clock, minutes, seconds, decimals, clock_spelling, IsField, AreClockParts, units_of, clock_units, IsMark, TimeText, midnight, after_mark, time_spelling, AreTimeParts, time_units}
 use Rattle.st_dates.specs.TimeTextMachine.{field, decimal_units, second_units, clock_of, past_slash, past_mark, time_of_text}
-use Rattle.st_dates.proofs.Runs.{Stops, joined, head_passes, tail_passes}
-use Rattle.st_dates.proofs.Scans.{some_same, bound, colon, after_is, digits_at, past_at, digits_test, digits_tested}
+use Rattle.st_dates.proofs.Runs.{Stops, head_passes}
+use Rattle.st_dates.proofs.Scans.{colon, digits_at, past_at, digits_test}
 
 at_most_test : (n last : ℕ) → n ≤ last → nat_le n last ≡ true
 at_most_test n last h = grind (arith, nat_tests)

@@ -1,5 +1,5 @@
--- The day of a date as it is written. Source: Time Required Reading, "Input String Conventions": years
--- of four digits, with a month's number, its name, or the place of the day in its year.
+-- The day of a date as it is written. Source: Time Required Reading, of whose forms four are taken: a
+-- year of four digits with a month's number, its name, or the place of the day in its year.
 use Rattle.std.specs.Prelude.{◌≡◌, ℕ, ◌≤◌, List, ◌∷◌, ◌++◌, length, IsTrue, ℤ}
 use Rattle.st_text.specs.Bytes.{are_digits, number_of}
 use Rattle.st_dates.specs.Calendar.{IsCalendarDay, IsDayOfYear, day_number, number_in_year}

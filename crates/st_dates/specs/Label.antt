@@ -1,4 +1,5 @@
--- Labels and their formal count. Source: Time Required Reading, "The J2000 Epoch" and "Calendars and Spacecraft Time".
+-- Labels and their formal count. Source: Time Required Reading, which counts formal seconds of the
+-- calendar from the epoch J2000, 2000-01-01 12:00:00.
 use Rattle.std.specs.Prelude.{ℤ, pos, neg_ℤ, ◌+ℤ◌, ◌-ℤ◌, ◌*ℤ◌, ◌<ℤ◌, ◌≤ℤ◌}
 use Rattle.st_dates.specs.declared.label.Label.{Label}
 

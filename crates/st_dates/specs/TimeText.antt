@@ -1,5 +1,5 @@
--- The time of day as it is written behind a day. Source: Time Required Reading, "Input String
--- Conventions": hours, minutes and seconds, with colons between them.
+-- The time of day as it is written behind a day. Source: Time Required Reading, for hours,
+-- minutes and seconds with colons between them; which marks may stand before them is a choice of this project.
 use Rattle.std.specs.Prelude.{◌≡◌, ℕ, ◌+◌, ◌-◌, ◌*◌, ◌^◌, ◌≤◌, ◌⊎◌, List, [], ◌∷◌, ◌++◌, length, codes}
 use Rattle.st_text.specs.Bytes.{number_of}
 use Rattle.st_dates.specs.DayText.{AreDigits}

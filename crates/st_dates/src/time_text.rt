@@ -2,11 +2,12 @@ ghost use Rattle.std.specs.Prelude.{◌≡◌, ◌≤◌, ◌<◌, ◌*◌, ◌^
 ghost use Rattle.st_dates.specs.TimeTextMachine as machine;
 ghost use Rattle.st_dates.specs.TimeTextMachine.{time_of_text, clock_of, second_units, decimal_units};
 
+use crate::label;
 use crate::scan::{after, is_digits, split_digits};
 use st_text::read_digits;
 
 /// The units in a second.
-const SECOND: u128 = 1_000_000_000_000_000_000;
+const SECOND: u128 = label::SECOND as u128;
 
 /// The units of the day that the text behind a day tells: none where it tells no time.
 #[tactic(auto, unfolding(crate::specs::TimeTextMachine::time_of_text))]

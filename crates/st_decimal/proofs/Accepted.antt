@@ -1,12 +1,11 @@
 -- Each number's bytes are accepted from the start on, part by part.
-use Rattle.std.proofs.Common.{◌≡◌, ℕ, ◌+◌, ◌<◌, zero, suc, Bool, true, false, List, [], ◌∷◌, ◌++◌, length, Option, Some, None, refl, sym, ◌∙◌, ap, arith}
-use Rattle.std.specs.Prelude.{IsTrue}
+use Rattle.std.proofs.Common.{◌≡◌, ℕ, ◌+◌, ◌<◌, true, List, [], ◌∷◌, ◌++◌, length, Option, Some, None, refl, ◌∙◌, ap, arith}
 use Rattle.st_text.specs.Bytes.{are_digits}
 use Rattle.st_decimal.specs.declared.place.Kind.TheVariants.{Sign, Point, Mark}
 use Rattle.st_decimal.specs.declared.place.Place.{Place}
 use Rattle.st_decimal.specs.declared.place.Place.TheVariants.{Start, Signed, Whole, Dot, Decimals, Marked, MarkedSigned, Raised}
 use Rattle.st_decimal.specs.Number.{Exponent, Parts, AreParts, IsOptionalSign, IsOptionalExponent, pointed, marked, spelling, decimals_of}
-use Rattle.st_decimal.specs.NumberMachine.{on_digit, on_point, on_mark, on_sign, is_end_of}
+use Rattle.st_decimal.specs.NumberMachine.{on_digit, on_point, on_mark, is_end_of}
 use Rattle.st_decimal.proofs.ZeroDigits.{and_left, and_right}
 use Rattle.st_decimal.proofs.Accepts.{accepts, step_by, digit_step, digits_on, digits_end, kind_sign, kind_point, kind_mark}
 
@@ -25,8 +24,8 @@ exponent_accepted : (q : Place) (e : Option Exponent) → on_mark q ≡ Some Mar
 exponent_accepted q None to end h = end
 exponent_accepted q (Some e) to end h =
     step_by q e.mark (e.sign ++ e.digits) Mark (kind_mark e.mark h.mark)
-      ∙ ap (λ (o : Option Place). accepts o (e.sign ++ e.digits)) to
-      ∙ marked_accepted e.sign e.digits h.sign h.digits h.some
+    ∙ ap (λ (o : Option Place). accepts o (e.sign ++ e.digits)) to
+    ∙ marked_accepted e.sign e.digits h.sign h.digits h.some
 
 decimals_accepted : (o : Option (List ℕ)) (e : Option Exponent) → are_digits (decimals_of o) ≡ true → IsOptionalExponent e
     → accepts (Some Whole) (pointed o ++ marked e) ≡ true
@@ -39,17 +38,17 @@ whole_accepted : (q : Place) (w : List ℕ) (o : Option (List ℕ)) (e : Option 
     → accepts (Some q) (w ++ (pointed o ++ marked e)) ≡ true
 whole_accepted q (d ∷ w) o e digit point hw ho some x =
     digit_step q d (w ++ (pointed o ++ marked e)) (and_left _ _ hw)
-      ∙ ap (λ (r : Option Place). accepts r (w ++ (pointed o ++ marked e))) digit
-      ∙ digits_on Whole w (pointed o ++ marked e) refl (and_right _ _ hw)
-      ∙ decimals_accepted o e ho x
+    ∙ ap (λ (r : Option Place). accepts r (w ++ (pointed o ++ marked e))) digit
+    ∙ digits_on Whole w (pointed o ++ marked e) refl (and_right _ _ hw)
+    ∙ decimals_accepted o e ho x
 whole_accepted q [] None e digit point hw ho some x = absurd (omega arith)
 whole_accepted q [] (Some []) e digit point hw ho some x = absurd (omega arith)
 whole_accepted q [] (Some (d ∷ ds)) e digit point hw ho some x =
     step_by q 46 ((d ∷ ds) ++ marked e) Point kind_point
-      ∙ ap (λ (r : Option Place). accepts r ((d ∷ ds) ++ marked e)) point
-      ∙ digit_step Dot d (ds ++ marked e) (and_left _ _ ho)
-      ∙ digits_on Decimals ds (marked e) refl (and_right _ _ ho)
-      ∙ exponent_accepted Decimals e refl refl x
+    ∙ ap (λ (r : Option Place). accepts r ((d ∷ ds) ++ marked e)) point
+    ∙ digit_step Dot d (ds ++ marked e) (and_left _ _ ho)
+    ∙ digits_on Decimals ds (marked e) refl (and_right _ _ ho)
+    ∙ exponent_accepted Decimals e refl refl x
 
 signed_accepted : (s w : List ℕ) (o : Option (List ℕ)) (e : Option Exponent) → IsOptionalSign s
     → are_digits w ≡ true → are_digits (decimals_of o) ≡ true → 0 < length w + length (decimals_of o) → IsOptionalExponent e

@@ -1,5 +1,5 @@
 -- The bytes of a number, read byte by byte from a place on: whether a number may end behind them.
-use Rattle.std.proofs.Common.{◌≡◌, ℕ, ◌+◌, Bool, true, false, List, [], ◌∷◌, ◌++◌, Option, Some, None, refl, sym, ◌∙◌, ap, arith}
+use Rattle.std.proofs.Common.{◌≡◌, ℕ, Bool, true, false, List, [], ◌∷◌, ◌++◌, Option, Some, None, refl, ◌∙◌, ap, arith}
 use Rattle.std.proofs.lemmas.Bool.Decides.{nat_tests}
 use Rattle.st_decimal.proofs.ZeroDigits.{and_left, and_right}
 use Rattle.std.specs.Char.{is_ascii_digit}
@@ -8,7 +8,6 @@ use Rattle.st_text.specs.Bytes.{are_digits}
 use Rattle.st_decimal.specs.declared.place.Kind.{Kind}
 use Rattle.st_decimal.specs.declared.place.Kind.TheVariants.{Digit, Sign, Point, Mark, Other}
 use Rattle.st_decimal.specs.declared.place.Place.{Place}
-use Rattle.st_decimal.specs.declared.place.Place.TheVariants.{Start, Signed, Whole, Dot, Decimals, Marked, MarkedSigned, Raised}
 use Rattle.st_decimal.specs.Number.{is_sign, is_mark}
 use Rattle.st_decimal.specs.NumberMachine.{kind_of, next_of, on_digit, is_end_of}
 

@@ -1,19 +1,19 @@
 -- The machine's answer is the one that the subject's words allow.
-use Rattle.std.proofs.Common.{◌≡◌, ℕ, ℤ, pos, ◌-ℤ◌, ◌+◌, ◌<◌, ◌≤◌, zero, suc, ◌⊎◌, inl, inr, Bool, true, false, List, [], ◌∷◌, ◌++◌, length, Option, Some, None, Result, Ok, Err, refl, sym, ◌∙◌, ap, arith, subst, nat_lt, length-append}
+use Rattle.std.proofs.Common.{◌≡◌, ℕ, ℤ, pos, ◌-ℤ◌, ◌+◌, ◌<◌, ◌≤◌, inl, inr, true, false, List, [], ◌∷◌, ◌++◌, length, Option, Some, None, Result, Ok, Err, refl, sym, ◌∙◌, ap, arith, subst, nat_lt, length-append}
 use Rattle.std.proofs.lemmas.Bool.{cases_lt}
 use Rattle.std.proofs.lemmas.Bool.Decides.{nat_tests}
-use Rattle.std.specs.Prelude.{◌==◌, if◌then◌else◌}
+use Rattle.std.specs.Prelude.{◌==◌}
 use Rattle.st_text.specs.Bytes.{are_digits, number_of}
 use Rattle.st_decimal.specs.declared.number.Dec.{Dec}
 use Rattle.st_decimal.specs.declared.number.DecFault.{DecFault}
 use Rattle.st_decimal.specs.declared.number.DecFault.TheVariants.{Empty, BadByte, TooManyDigits, BadExponent}
 use Rattle.st_decimal.specs.declared.place.Place.TheVariants.{Start}
-use Rattle.st_decimal.specs.Number.{Parts, AreParts, IsNumber, StopsAt, spelling, decimals_of, pointed, marked}
-use Rattle.st_decimal.specs.Value.{ReadsDec, IsValue, IsScaled, significant, digits_of, exponent_of, exponent_size, is_minus, signed}
-use Rattle.st_decimal.specs.NumberMachine.{Pieces, stop_of, pieces_of, value_of, scaled_dec, dec_of, answer_of}
+use Rattle.st_decimal.specs.Number.{Parts, AreParts, StopsAt, spelling, decimals_of, pointed, marked}
+use Rattle.st_decimal.specs.Value.{ReadsDec, IsValue, significant, digits_of, exponent_of, exponent_size, is_minus, signed}
+use Rattle.st_decimal.specs.NumberMachine.{Pieces, stop_of, pieces_of, value_of, scaled_dec, dec_of}
 use Rattle.st_decimal.proofs.ValueCode.{both_digits}
 use Rattle.st_decimal.proofs.Stops.{stops_at, number_stops_nowhere, no_stop_number, number_stops_not, one_stop}
-use Rattle.st_decimal.proofs.PieceLaws.{pieces, pieces_of-spelling, raised_is, raised_size, raised_are_digits, minus_of, raised_digits}
+use Rattle.st_decimal.proofs.PieceLaws.{pieces, pieces_of-spelling, raised_is, raised_size, raised_are_digits}
 use Rattle.st_decimal.proofs.Scaled.{scaled_dec_is, one_scaled}
 
 abbrev Answer : Type 0
@@ -45,7 +45,7 @@ tens_of p = exponent_of p.exponent -ℤ pos (length (decimals_of p.decimals))
 kept_parts : (p : Parts) → significant (digits_of p) ≤ 30 → exponent_size p.exponent ≤ 400 → value_of (pieces p) ≡ Ok (scaled_dec (is_minus p.sign) (digits_of p) (tens_of p))
 kept_parts p few h =
     kept (pieces p) few (omega (arith, h, raised_size p.exponent))
-      ∙ ap (λ (z : ℤ). Ok (scaled_dec (is_minus p.sign) (digits_of p) (z -ℤ pos (length (decimals_of p.decimals))))) (raised_is p.exponent)
+    ∙ ap (λ (z : ℤ). Ok (scaled_dec (is_minus p.sign) (digits_of p) (z -ℤ pos (length (decimals_of p.decimals))))) (raised_is p.exponent)
 
 value_is : (p : Parts) → AreParts p → IsValue p (scaled_dec (is_minus p.sign) (digits_of p) (tens_of p))
 value_is p h = scaled_dec_is (is_minus p.sign) (digits_of p) (tens_of p) (both_digits p.whole (decimals_of p.decimals) h.whole h.decimals)
@@ -67,16 +67,18 @@ at_empty = refl
 of_parts : (t : List ℕ) (p : Parts) → AreParts p → t ≡ spelling p → dec_of t ≡ value_of (pieces p)
 of_parts t p h is =
     at_number t (number_stops_nowhere t (p, h, is))
-      ∙ ap value_of (ap pieces_of is ∙ pieces_of-spelling p h)
+    ∙ ap value_of (ap pieces_of is ∙ pieces_of-spelling p h)
 
 -- the machine meets the relation
 meets_parts : (t : List ℕ) (p : Parts) → AreParts p → t ≡ spelling p → ReadsDec t (value_of (pieces p))
 meets_parts t p h is =
     elim (cases_lt 30 (significant (digits_of p))) [
-      inl over ↦ subst (λ (r : Answer). ReadsDec t r) (sym (many (pieces p) over)) (p, h, is, over)
-    | inr few ↦ elim (cases_lt 400 (exponent_size p.exponent)) [
-        inl over ↦ subst (λ (r : Answer). ReadsDec t r) (sym (raised (pieces p) few (omega (arith, over, raised_size p.exponent)))) (p, h, is, few, over)
-      | inr small ↦ subst (λ (r : Answer). ReadsDec t r) (sym (kept_parts p few small)) (p, h, is, few, small, value_is p h) ] ]
+      | inl over ↦ subst (λ (r : Answer). ReadsDec t r) (sym (many (pieces p) over)) (p, h, is, over)
+      | inr few ↦ elim (cases_lt 400 (exponent_size p.exponent)) [
+        | inl over ↦ subst (λ (r : Answer). ReadsDec t r) (sym (raised (pieces p) few (omega (arith, over, raised_size p.exponent)))) (p, h, is, few, over)
+        | inr small ↦ subst (λ (r : Answer). ReadsDec t r) (sym (kept_parts p few small)) (p, h, is, few, small, value_is p h)
+      ]
+    ]
 
 meets_some : (t : List ℕ) → 0 < length t → (o : Option ℕ) → stop_of Start 0 t ≡ o → ReadsDec t (dec_of t)
 meets_some t some (Some k) e = subst (λ (r : Answer). ReadsDec t r) (sym (at_stop t k some e)) (some, stops_at t k e)
@@ -96,7 +98,7 @@ bad_byte t k some s None e = absurd (number_stops_not t k (no_stop_number t e) s
 pub one_answer : (t : List ℕ) (r : Answer) → ReadsDec t r → dec_of t ≡ r
 one_answer t (Ok d) (p, h, is, few, small, value) =
     of_parts t p h is ∙ kept_parts p few small
-      ∙ ap (λ (e : Dec). Ok e) (one_scaled (is_minus p.sign) (number_of (digits_of p)) (tens_of p) _ d (value_is p h) value)
+    ∙ ap (λ (e : Dec). Ok e) (one_scaled (is_minus p.sign) (number_of (digits_of p)) (tens_of p) _ d (value_is p h) value)
 one_answer t (Err Empty) none = ap dec_of none ∙ at_empty
 one_answer t (Err (BadByte k)) (some, s) = bad_byte t k some s (stop_of Start 0 t) refl
 one_answer t (Err TooManyDigits) (p, h, is, over) = of_parts t p h is ∙ many (pieces p) over
@@ -108,17 +110,23 @@ pointed_length (Some ds) = omega arith
 
 shorter : (p : Parts) → length p.whole + length (decimals_of p.decimals) ≤ length (spelling p)
 shorter p =
-    omega (arith, pointed_length p.decimals, length-append p.sign (p.whole ++ (pointed p.decimals ++ marked p.exponent)),
-      length-append p.whole (pointed p.decimals ++ marked p.exponent), length-append (pointed p.decimals) (marked p.exponent))
+    omega (
+      arith,
+      pointed_length p.decimals,
+      length-append p.sign (p.whole ++ (pointed p.decimals ++ marked p.exponent)),
+      length-append p.whole (pointed p.decimals ++ marked p.exponent),
+      length-append (pointed p.decimals) (marked p.exponent),
+    )
 
 -- what the value of a number's pieces asks of them
 pub pieces_fit : (t : List ℕ) → stop_of Start 0 t ≡ None
     → (are_digits (pieces_of t).whole ≡ true) × (are_digits (pieces_of t).decimals ≡ true) × (are_digits (pieces_of t).exponent ≡ true)
-      × (length (pieces_of t).whole + length (pieces_of t).decimals ≤ length t)
+    × (length (pieces_of t).whole + length (pieces_of t).decimals ≤ length t)
 pieces_fit t e =
     let (p, h, is) = no_stop_number t e in
-    let same : pieces_of t ≡ pieces p = ap pieces_of is ∙ pieces_of-spelling p h in
-    (ap (λ (q : Pieces). are_digits q.whole) same ∙ h.whole,
+    let same : pieces_of t ≡ pieces p = ap pieces_of is ∙ pieces_of-spelling p h in (
+      ap (λ (q : Pieces). are_digits q.whole) same ∙ h.whole,
       ap (λ (q : Pieces). are_digits q.decimals) same ∙ h.decimals,
       ap (λ (q : Pieces). are_digits q.exponent) same ∙ raised_are_digits p.exponent h.exponent,
-      omega (arith, shorter p, ap length is, ap (λ (q : Pieces). length q.whole) same, ap (λ (q : Pieces). length q.decimals) same))
+      omega (arith, shorter p, ap length is, ap (λ (q : Pieces). length q.whole) same, ap (λ (q : Pieces). length q.decimals) same),
+    )

@@ -1,4 +1,5 @@
 mod FixedExamples
+mod NumberExamples
 pub mod FixedDecimals
 pub mod ZeroDigits
 pub mod ValueCode
@@ -9,3 +10,4 @@ pub mod Stops
 pub mod PieceLaws
 pub mod Scaled
 pub mod Answered
+pub mod ScalingLaws

@@ -1,13 +1,13 @@
 -- The pieces of a number's text are those of its parts.
-use Rattle.std.proofs.Common.{◌≡◌, ℕ, ℤ, pos, ◌+◌, ◌-◌, ◌<◌, ◌≤◌, zero, suc, Bool, true, false, List, [], ◌∷◌, ◌++◌, length, take, Option, Some, None, refl, sym, ◌∙◌, ap, arith, length-append}
+use Rattle.std.proofs.Common.{◌≡◌, ℕ, ◌+◌, ◌-◌, ◌<◌, Bool, true, false, List, [], ◌∷◌, ◌++◌, length, take, Option, Some, None, refl, ◌∙◌, ap, arith, length-append}
 use Rattle.std.proofs.lemmas.List.{take_at}
 use Rattle.std.proofs.lemmas.Bool.Decides.{nat_tests}
 use Rattle.std.specs.Char.{is_ascii_digit}
-use Rattle.std.specs.Prelude.{◌==◌, if◌then◌else◌}
+use Rattle.std.specs.Prelude.{◌==◌}
 use Rattle.st_text.specs.Bytes.{are_digits, number_of}
 use Rattle.st_decimal.specs.Number.{Exponent, Parts, AreParts, IsOptionalSign, IsOptionalExponent, is_sign, is_mark, pointed, marked, spelling, decimals_of}
 use Rattle.st_decimal.specs.Value.{is_minus, signed, exponent_of, exponent_size}
-use Rattle.st_decimal.specs.NumberMachine.{Pieces, pieces_of, raised_in, behind_sign, behind_digits, leading_digits, decimals_in, behind_decimals, behind_mark}
+use Rattle.st_decimal.specs.NumberMachine.{Pieces, pieces_of, behind_sign, behind_digits, leading_digits, decimals_in, behind_decimals, behind_mark}
 use Rattle.st_decimal.proofs.ZeroDigits.{and_left, and_right}
 
 abbrev starts_digit : List ℕ → Bool
@@ -48,7 +48,7 @@ behind_digits-append (x ∷ w) r h n =
 leading_digits-append : (w r : List ℕ) → are_digits w ≡ true → starts_digit r ≡ false → leading_digits (w ++ r) ≡ w
 leading_digits-append w r h n =
     let count : length (w ++ r) - length (behind_digits (w ++ r)) ≡ length w =
-        omega (arith, length-append w r, ap length (behind_digits-append w r h n)) in
+    omega (arith, length-append w r, ap length (behind_digits-append w r h n)) in
     ap (λ (k : ℕ). take k (w ++ r)) count ∙ take_at w r (length w) refl
 
 -- a sign and what follows it
@@ -128,12 +128,12 @@ raised_size (Some e) = refl
 
 abbrev pub pieces : Parts → Pieces
 pieces p = record {
-    minus = is_minus p.sign;
-    whole = p.whole;
-    decimals = decimals_of p.decimals;
-    exponent_minus = minus_of p.exponent;
-    exponent = raised_digits p.exponent
-  }
+  minus = is_minus p.sign;
+  whole = p.whole;
+  decimals = decimals_of p.decimals;
+  exponent_minus = minus_of p.exponent;
+  exponent = raised_digits p.exponent;
+}
 
 abbrev of : Bool → List ℕ → List ℕ → Bool → List ℕ → Pieces
 of a b c d e = record { minus = a; whole = b; decimals = c; exponent_minus = d; exponent = e }
@@ -142,10 +142,10 @@ same_pieces : (a a' : Bool) (b b' c c' : List ℕ) (d d' : Bool) (e e' : List �
     → of a b c d e ≡ of a' b' c' d' e'
 same_pieces a a' b b' c c' d d' e e' p q r s t =
     ap (λ (x : Bool). of x b c d e) p
-      ∙ ap (λ (x : List ℕ). of a' x c d e) q
-      ∙ ap (λ (x : List ℕ). of a' b' x d e) r
-      ∙ ap (λ (x : Bool). of a' b' c' x e) s
-      ∙ ap (λ (x : List ℕ). of a' b' c' d' x) t
+    ∙ ap (λ (x : List ℕ). of a' x c d e) q
+    ∙ ap (λ (x : List ℕ). of a' b' x d e) r
+    ∙ ap (λ (x : Bool). of a' b' c' x e) s
+    ∙ ap (λ (x : List ℕ). of a' b' c' d' x) t
 
 pub pieces_of-spelling : (p : Parts) → AreParts p → pieces_of (spelling p) ≡ pieces p
 unfolding pieces_of
@@ -157,8 +157,8 @@ pieces_of-spelling p h =
     let after = ap behind_digits unsigned ∙ behind_digits-append p.whole (pointed p.decimals ++ marked p.exponent) h.whole no_digit in
     let raised = ap behind_mark (ap behind_decimals after ∙ behind_decimals-append p.decimals p.exponent h.decimals h.exponent) in
     same_pieces _ _ _ _ _ _ _ _ _ _
-      (is_minus-append p.sign body h.sign no_sign)
-      (ap leading_digits unsigned ∙ leading_digits-append p.whole (pointed p.decimals ++ marked p.exponent) h.whole no_digit)
-      (ap decimals_in after ∙ decimals_in-append p.decimals p.exponent h.decimals h.exponent)
-      (ap is_minus raised ∙ mark_minus p.exponent h.exponent)
-      (ap behind_sign raised ∙ mark_digits p.exponent h.exponent)
+    (is_minus-append p.sign body h.sign no_sign)
+    (ap leading_digits unsigned ∙ leading_digits-append p.whole (pointed p.decimals ++ marked p.exponent) h.whole no_digit)
+    (ap decimals_in after ∙ decimals_in-append p.decimals p.exponent h.decimals h.exponent)
+    (ap is_minus raised ∙ mark_minus p.exponent h.exponent)
+    (ap behind_sign raised ∙ mark_digits p.exponent h.exponent)

@@ -1,6 +1,5 @@
 -- What the code of a number's value needs: sizes of powers of ten, and digits of parts of digits.
-use Rattle.std.proofs.Common.{◌≡◌, ◌≢◌, ℕ, ℤ, pos, ◌+ℤ◌, ◌-ℤ◌, ◌+◌, ◌-◌, ◌*◌, ◌%◌, ◌^◌, ◌<◌, ◌≤◌, zero, suc, ◌⊎◌, inl, inr, Bool, true, false, ◌&&◌, List, [], ◌∷◌, ◌++◌, length, Some, None, Ok, Err, Result, refl, sym, ◌∙◌, ap, arith, length-append, nat_lt, ◌==◌}
-use Rattle.std.proofs.lemmas.Grind.{common_steps}
+use Rattle.std.proofs.Common.{◌≡◌, ℕ, ℤ, pos, ◌+ℤ◌, ◌-ℤ◌, ◌+◌, ◌-◌, ◌*◌, ◌^◌, ◌<◌, ◌≤◌, Bool, true, false, ◌&&◌, List, [], ◌∷◌, ◌++◌, length, Some, None, Ok, Result, refl, sym, ◌∙◌, ap, arith, nat_lt, ◌==◌}
 use Rattle.std.proofs.lemmas.List.Folds.{list_all-append}
 use Rattle.std.proofs.lemmas.Nat.{pow-add, mul-add-lt}
 use Rattle.std.proofs.lemmas.Bool.Decides.{nat_tests}
@@ -9,12 +8,11 @@ use Rattle.std.proofs.Math.Nat.{pow-le-pow_right, mul-le-mul_right}
 use Rattle.std.specs.Char.{is_ascii_digit}
 use Rattle.std.specs.Prelude.{if◌then◌else◌}
 use Rattle.st_text.specs.Bytes.{number_of, are_digits}
-use Rattle.st_text.proofs.Numbers.{number_of-append}
 use Rattle.st_decimal.specs.declared.number.Dec.{Dec}
 use Rattle.st_decimal.specs.declared.number.DecFault.{DecFault}
 use Rattle.st_decimal.specs.Value.{is_zero, are_zeros, skip_zeros, without_end_zeros, significant, signed}
 use Rattle.st_decimal.specs.NumberMachine.{value_of, scaled_dec}
-use Rattle.st_decimal.proofs.ZeroDigits.{and_left, and_right, number_of-skip_zeros, digit_range, not_zero}
+use Rattle.st_decimal.proofs.ZeroDigits.{and_left, and_right, digit_range, not_zero}
 
 pub front_digits : (xs ys : List ℕ) → are_digits (xs ++ ys) ≡ true → are_digits xs ≡ true
 front_digits xs ys h = and_left (are_digits xs) (are_digits ys) (sym (list_all-append is_ascii_digit xs ys) ∙ h)
@@ -81,9 +79,10 @@ piece_power k h = pow-le-pow_right {n = 10} (omega arith) {i = k} {j = 30} h
 pub value_some : (minus em : Bool) (w d e : List ℕ)
     → significant (w ++ d) ≤ 30 → number_of e ≤ 400 → 0 < significant (w ++ d)
     → value_of (record { minus = minus; whole = w; decimals = d; exponent_minus = em; exponent = e })
-      ≡ Ok (record {
-          digits = signed minus (number_of (skip_zeros (without_end_zeros (w ++ d))));
-          tens = (signed em (number_of e) -ℤ pos (length d)) +ℤ pos (length (w ++ d) - length (without_end_zeros (w ++ d))) })
+    ≡ Ok (record {
+      digits = signed minus (number_of (skip_zeros (without_end_zeros (w ++ d))));
+      tens = (signed em (number_of e) -ℤ pos (length d)) +ℤ pos (length (w ++ d) - length (without_end_zeros (w ++ d)));
+    })
 unfolding value_of scaled_dec
 value_some minus em w d e few small some =
     let a : nat_lt 30 (significant (w ++ d)) ≡ false = grind (arith, nat_tests) in

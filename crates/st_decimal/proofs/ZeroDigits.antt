@@ -1,5 +1,5 @@
 -- Digits without the zeros at their two ends: over two pieces, and what they are worth.
-use Rattle.std.proofs.Common.{◌≡◌, ◌≢◌, ℕ, ◌+◌, ◌-◌, ◌*◌, ◌%◌, ◌^◌, ◌<◌, ◌≤◌, zero, suc, ◌⊎◌, inl, inr, Bool, true, false, ◌&&◌, List, [], ◌∷◌, ◌++◌, length, take, get_or, replicate, refl, sym, ◌∙◌, ap, arith, add-one, length-append}
+use Rattle.std.proofs.Common.{◌≡◌, ◌≢◌, ℕ, ◌-◌, ◌*◌, ◌%◌, ◌^◌, ◌<◌, ◌≤◌, zero, suc, ◌⊎◌, inl, inr, Bool, true, false, ◌&&◌, List, [], ◌∷◌, ◌++◌, length, take, get_or, replicate, refl, sym, ◌∙◌, ap, arith}
 use Rattle.std.proofs.lemmas.Grind.{common_steps}
 use Rattle.std.proofs.lemmas.List.{length-replicate}
 use Rattle.std.proofs.lemmas.List.Folds.{list_all-append}
@@ -115,14 +115,14 @@ last_of x xs false e h (inl none) =
       last = x;
       is = ap (λ (ys : List ℕ). x ∷ ys) none;
       above = not_zero x other digit.0;
-      below = digit.1
+      below = digit.1;
     })
 last_of x xs false e h (inr r) = inr (record { front = x ∷ r.front; last = r.last; is = ap (λ (ys : List ℕ). x ∷ ys) r.is; above = r.above; below = r.below })
 
 pub end_zeros_more : (xs : List ℕ) → 0 < length xs → is_zero (get_or xs (length xs - 1) 0) ≡ true → without_end_zeros (take (length xs - 1) xs) ≡ without_end_zeros xs
 end_zeros_more xs h b =
     sym (ap (λ (ys : List ℕ). without_end_zeros ys) (front_and_last xs h ∙ ap (λ (z : ℕ). take (length xs - 1) xs ++ z ∷ []) (zero_byte _ b))
-      ∙ without_end_zeros-zero (take (length xs - 1) xs))
+    ∙ without_end_zeros-zero (take (length xs - 1) xs))
 
 pub end_zeros_none : (xs : List ℕ) → 0 < length xs → is_zero (get_or xs (length xs - 1) 0) ≡ false → xs ≡ without_end_zeros xs
 end_zeros_none xs h b =
@@ -150,8 +150,8 @@ number_of-zeros_behind xs k =
 pub number_of-significant : (ds : List ℕ) → number_of ds ≡ number_of (skip_zeros (without_end_zeros ds)) * 10 ^ (length ds - length (without_end_zeros ds))
 number_of-significant ds =
     ap number_of (cut_zeros ds)
-      ∙ number_of-zeros_behind (without_end_zeros ds) (length ds - length (without_end_zeros ds))
-      ∙ ap (λ (n : ℕ). n * 10 ^ (length ds - length (without_end_zeros ds))) (sym (number_of-skip_zeros (without_end_zeros ds)))
+    ∙ number_of-zeros_behind (without_end_zeros ds) (length ds - length (without_end_zeros ds))
+    ∙ ap (λ (n : ℕ). n * 10 ^ (length ds - length (without_end_zeros ds))) (sym (number_of-skip_zeros (without_end_zeros ds)))
 
 pub end_nonzero : (ds : List ℕ) → are_digits ds ≡ true → (without_end_zeros ds ≡ []) ⊎ EndsNonzero (without_end_zeros ds)
 end_nonzero [] h = inl refl

@@ -102,21 +102,21 @@ raised_in text = behind_mark (behind_decimals (behind_digits (behind_sign text))
 
 unfoldable pub pieces_of : List ℕ → Pieces
 pieces_of text = record {
-    minus = is_minus text;
-    whole = leading_digits (behind_sign text);
-    decimals = decimals_in (behind_digits (behind_sign text));
-    exponent_minus = is_minus (raised_in text);
-    exponent = behind_sign (raised_in text)
-  }
+  minus = is_minus text;
+  whole = leading_digits (behind_sign text);
+  decimals = decimals_in (behind_digits (behind_sign text));
+  exponent_minus = is_minus (raised_in text);
+  exponent = behind_sign (raised_in text);
+}
 
 -- the decimal of digits whose last is worth ten to `tens`
 unfoldable pub scaled_dec : Bool → List ℕ → ℤ → Dec
 scaled_dec minus digits tens =
     if significant digits == 0 then record { digits = pos 0; tens = pos 0 }
     else record {
-        digits = signed minus (number_of (skip_zeros (without_end_zeros digits)));
-        tens = tens +ℤ pos (length digits - length (without_end_zeros digits))
-      }
+      digits = signed minus (number_of (skip_zeros (without_end_zeros digits)));
+      tens = tens +ℤ pos (length digits - length (without_end_zeros digits));
+    }
 
 unfoldable pub value_of : Pieces → Result Dec DecFault
 value_of p =

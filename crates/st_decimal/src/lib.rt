@@ -11,6 +11,7 @@ mod number;
 mod pieces;
 mod place;
 mod read;
+mod scaling;
 mod value;
 mod zeros;
 

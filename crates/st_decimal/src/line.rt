@@ -30,6 +30,13 @@ impl Line {
         }
     }
 
+    /// The bytes of a vector, which aren't copied.
+    pub fn from_vec(bytes: Vec<u8>) -> Self
+        ensures { result ≡ bytes.items }
+    {
+        Line { bytes }
+    }
+
     /// A copy of some bytes.
     pub fn from_slice(alloc: Global, bytes: &[u8]) -> Result<Self, OutOfMemory>
         ensures { IfOk result (λ list. list ≡ bytes.now) }

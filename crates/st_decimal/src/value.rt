@@ -23,15 +23,13 @@ pub fn value(pieces: &Pieces<'_>) -> Result<Dec, DecFault>
     requires decimals { IsTrue (are_digits pieces.now.decimals.now) }
     requires exponent { IsTrue (are_digits pieces.now.exponent.now) }
     requires short { length pieces.now.whole.now + length pieces.now.decimals.now ≤ 1000 }
-    ensures {
-        result ≡ value_of (record {
-            minus = pieces.now.negative;
-            whole = pieces.now.whole.now;
-            decimals = pieces.now.decimals.now;
-            exponent_minus = pieces.now.exponent_negative;
-            exponent = pieces.now.exponent.now
-        })
-    }
+    ensures { result ≡ value_of (record {
+      minus = pieces.now.negative;
+      whole = pieces.now.whole.now;
+      decimals = pieces.now.decimals.now;
+      exponent_minus = pieces.now.exponent_negative;
+      exponent = pieces.now.exponent.now;
+    }) }
 {
     let (whole, decimals) = without_end_zeros(pieces.whole, pieces.decimals);
     let count = pieces.whole.len() + pieces.decimals.len();
@@ -67,10 +65,8 @@ fn number(front: &[u8], back: &[u8]) -> u128
 /// The exponent, or none where its magnitude is greater than 400.
 fn exponent(negative: bool, digits: &[u8]) -> Option<i32>
     requires { IsTrue (are_digits digits.now) }
-    ensures value {
-        result ≡ (if nat_lt MOST_EXPONENT (number_of digits.now) then None
-            else Some (spec.signed negative (number_of digits.now)))
-    }
+    ensures value { result ≡ (if nat_lt MOST_EXPONENT (number_of digits.now) then None
+        else Some (spec.signed negative (number_of digits.now))) }
 {
     let digits = drop_zeros(digits);
     if digits.len() > 3 {
@@ -88,7 +84,11 @@ fn small_signed(negative: bool, size: u64) -> i32
     requires { size ≤ MOST_EXPONENT }
     ensures { result ≡ spec.signed negative size }
 {
-    if negative { -(size as i32) } else { size as i32 }
+    if negative {
+        -(size as i32)
+    } else {
+        size as i32
+    }
 }
 
 /// A number of at most 30 digits with its sign.

@@ -54,7 +54,10 @@ mod tests {
         assert_eq!(rt; read_digits(b"007"), 7);
         assert_eq!(rt; read_digits(b"999999999999999999"), 999_999_999_999_999_999);
         let most = 99_999_999_999_999_999_999_999_999_999_999_999_999;
-        assert_eq!(rt; read_wide_digits(b"99999999999999999999999999999999999999"), most);
+        assert_eq!(rt;
+            read_wide_digits(b"99999999999999999999999999999999999999"),
+            most
+        );
         Ok(())
     }
 }

@@ -10,7 +10,7 @@ invariant-loop-buf g l = record {
   faults : g.F.Files.faults l.fn.files ≤ g.F.Files.faults l.files;
   taken : min (g.F.Files.taken l.fn.files + length l.bytes.items) (2 ^ 64 - 1) ≤ g.F.Files.taken l.files;
   consumed : Consumes (g.F.Files.left l.fn.files) (g.F.Files.left l.files) l.bytes.items;
-  room : length l.buf ≡ 4096
+  room : length l.buf ≡ 4096;
 }
 
 abbrev pub decreases-loop-buf : goal.decreases-loop-buf

@@ -15,7 +15,7 @@ loop-at-preserved g c =
     let at = c.loop-at.at in
     let whole = rest_whole at xs in
     let joined : take at xs ++ take c.in-Ok.taken (take (length xs - at) (drop at xs)) ≡ take (at + c.in-Ok.taken) xs =
-      ap (λ (t : List ℕ). take at xs ++ take c.in-Ok.taken t) whole ∙ sym (take-add at c.in-Ok.taken xs) in
+    ap (λ (t : List ℕ). take at xs ++ take c.in-Ok.taken t) whole ∙ sym (take-add at c.in-Ok.taken xs) in
     record {
       within = omega (arith, length-drop at xs, ap length whole, c.in-Ok.ensures.bound);
       taken = rw joined at (Appends-trans _ _ _ _ _ c.loop-at.invariant.taken c.in-Ok.ensures.bytes);

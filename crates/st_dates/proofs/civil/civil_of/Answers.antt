@@ -1,4 +1,4 @@
-use Rattle.std.proofs.Common.{ℤ, FitsSigned, subst, w32, to_z, of_z, to_z-of_z}
+use Rattle.std.proofs.Common.{ℤ, FitsSigned, subst, w32, to_z-of_z}
 use Rattle.st_dates.specs.Civil.{IsCivil}
 use Rattle.st_dates.proofs.CivilLaws.{one_civil}
 use Rattle.st_dates.proofs.civil.civil_of.Goals as goal

@@ -1,4 +1,4 @@
-use Rattle.std.proofs.Common.{arith, rules, ap, sym, ◌∙◌, ◌≡◌, ◌<◌, ◌≤◌, true, ℕ, ℤ, length, Some, nat_lt}
+use Rattle.std.proofs.Common.{arith, rules, ap, ◌∙◌, ◌≡◌, true, ℕ, ℤ, length, Some}
 use Rattle.std.proofs.lemmas.Int.{to_z-of_z}
 use Rattle.std.specs.Int.{w32}
 use Rattle.st_text.specs.Bytes.{are_digits, number_of}
@@ -30,5 +30,5 @@ returns c =
     let size = c.read_digits-size.ensures.value ∙ ap number_of c.drop_zeros-digits.ensures ∙ number_of-skip_zeros c.args.digits.now in
     let same = to_z-of_z w32 c.small_signed.result (search rules) ∙ c.small_signed.ensures ∙ ap (λ (n : ℕ). signed c.args.negative n) size in
     record {
-      value = ap (λ (z : ℤ). Some z) same ∙ exponent_some (number_of c.args.digits.now) (signed c.args.negative (number_of c.args.digits.now)) (omega (arith, size))
+      value = ap (λ (z : ℤ). Some z) same ∙ exponent_some (number_of c.args.digits.now) (signed c.args.negative (number_of c.args.digits.now)) (omega (arith, size));
     }

@@ -1,4 +1,4 @@
-use Rattle.std.proofs.Common.{arith, length, ap, ◌≡◌, ◌<◌, ◌*◌, ◌+◌, ◌^◌, ℕ, sym, ◌∙◌}
+use Rattle.std.proofs.Common.{arith, length, ap, ◌<◌, ◌*◌, ◌^◌, ℕ}
 use Rattle.std.proofs.Math.Nat.{one-le-pow}
 use Rattle.st_text.proofs.Numbers.{number_of-append}
 use Rattle.st_decimal.proofs.ValueCode.{two_pieces, piece_power}

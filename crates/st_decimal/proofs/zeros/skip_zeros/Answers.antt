@@ -8,4 +8,4 @@ returns-then-are_zeros c = c.drop_zeros.ensures ∙ sym (skip_zeros_all c.args.w
 pub returns-else-are_zeros : goal.returns-else-are_zeros
 returns-else-are_zeros c =
     ap (λ (xs : List ℕ). xs ++ c.args.decimals.now) c.drop_zeros-else-are_zeros.ensures
-      ∙ sym (skip_zeros_some c.args.whole.now c.args.decimals.now (search rules))
+    ∙ sym (skip_zeros_some c.args.whole.now c.args.decimals.now (search rules))

@@ -10,4 +10,4 @@ returns-then-are_zeros c =
 pub returns-else-are_zeros : goal.returns-else-are_zeros
 returns-else-are_zeros c =
     ap (λ (xs : List ℕ). c.args.whole.now ++ xs) c.trim_zeros-else-are_zeros.ensures
-      ∙ sym (end_zeros_some c.args.whole.now c.args.decimals.now (search rules))
+    ∙ sym (end_zeros_some c.args.whole.now c.args.decimals.now (search rules))

@@ -1,0 +1,37 @@
+//! Conversions from UTC to TAI with `naif.tls`.
+
+use crate::session::{files, to_tai};
+use st_batch::{Status, run};
+use st_outside::{SafeFiles, SafeSink, SafeSource};
+use std::test::Fail;
+
+/// A time, and the whole output for it.
+const ROWS: [(&str, &str); 11] = [
+    ("2000-01-01T12:00:00", "32.000000\n"),
+    ("2016-12-31T23:59:59.5", "536500835.500000\n"),
+    ("2017-01-01T00:00:00", "536500837.000000\n"),
+    ("2017-06-01T00:00:00", "549547237.000000\n"),
+    ("1972-01-01T00:00:00", "-883655990.000000\n"),
+    ("1971-12-31T23:59:59", "-883655992.000000\n"),
+    // Before J2000 the sixth decimal is truncated downwards, as after it.
+    ("1999-12-31T12:00:00.123456789012", "-86367.876544\n"),
+    ("2000-01-01T12:00:00.999999999999", "32.999999\n"),
+    ("1900-01-01T00:00:00", "-3155716791.000000\n"),
+    ("2100-01-01T00:00:00", "3155716837.000000\n"),
+    ("2000-02-29T00:00:00", "5054432.000000\n"),
+];
+
+#[test]
+fn conversions(rt: HostRuntime) -> Result<(), Fail> {
+    let alloc = rt.alloc();
+    for (time, output) in ROWS {
+        let words = to_tai(alloc, time)?;
+        let mut kernels = SafeFiles::new(files(alloc)?);
+        let mut input = SafeSource::new(Vec::new(alloc));
+        let mut out = SafeSink::new(alloc);
+        let status = run(alloc, words.as_slice(), &mut kernels, &mut input, &mut out);
+        assert_eq!(rt; status, Status::Done, "{time}");
+        assert_eq!(rt; out.bytes(), output.as_bytes(), "{time}");
+    }
+    Ok(())
+}

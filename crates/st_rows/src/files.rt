@@ -1,0 +1,40 @@
+//! The files of the worked rows.
+
+/// `naif.tls`: a leapseconds kernel with the usual values.
+pub const NAIF: &[u8] = b"\
+    KPL/LSK\n\
+    Leapseconds kernel.\n\
+    \\begindata\n\
+    DELTET/DELTA_T_A = 32.184\n\
+    DELTET/K         = 1.657D-3\n\
+    DELTET/EB        = 1.671D-2\n\
+    DELTET/M         = ( 6.239996D0 1.99096871D-7 )\n\
+    DELTET/DELTA_AT  = ( 10, @1972-JAN-1\n\
+    \x20                    11, @1972-JUL-1\n\
+    \x20                    12, @1973-JAN-1\n\
+    \x20                    13, @1974-JAN-1\n\
+    \x20                    14, @1975-JAN-1\n\
+    \x20                    15, @1976-JAN-1\n\
+    \x20                    16, @1977-JAN-1\n\
+    \x20                    17, @1978-JAN-1\n\
+    \x20                    18, @1979-JAN-1\n\
+    \x20                    19, @1980-JAN-1\n\
+    \x20                    20, @1981-JUL-1\n\
+    \x20                    21, @1982-JUL-1\n\
+    \x20                    22, @1983-JUL-1\n\
+    \x20                    23, @1985-JUL-1\n\
+    \x20                    24, @1988-JAN-1\n\
+    \x20                    25, @1990-JAN-1\n\
+    \x20                    26, @1991-JAN-1\n\
+    \x20                    27, @1992-JUL-1\n\
+    \x20                    28, @1993-JUL-1\n\
+    \x20                    29, @1994-JUL-1\n\
+    \x20                    30, @1996-JAN-1\n\
+    \x20                    31, @1997-JUL-1\n\
+    \x20                    32, @1999-JAN-1\n\
+    \x20                    33, @2006-JAN-1\n\
+    \x20                    34, @2009-JAN-1\n\
+    \x20                    35, @2012-JUL-1\n\
+    \x20                    36, @2015-JUL-1\n\
+    \x20                    37, @2017-JAN-1 )\n\
+    \\begintext\n";
