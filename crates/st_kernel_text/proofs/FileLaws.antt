@@ -183,19 +183,31 @@ reads bytes (Ok list) h = subst (Is bytes) h (is_read bytes)
 reads bytes (Err (At n cause)) h = subst (Is bytes) h (is_read bytes)
 reads bytes (Err OutOfMemory) h = tt
 
+abbrev pub answer_of : Result (List Assignment) Fault → Result (List Assignment) TextFault
+answer_of (Ok list) = Ok list
+answer_of (Err f) = Err (At f.line f.cause)
+
 pub only : (bytes : List ℕ) (r a : Result (List Assignment) TextFault) → Answers r (read_of bytes) → Reads bytes a → Agree r a
-only bytes (Ok list) (Ok other) h k = let e : Ok list ≡ Ok other = sym h ∙ reads_forced bytes other k in ap same_list e
-  where
-    same_list : Result (List Assignment) Fault → Result (List Assignment) TextFault
-    same_list (Ok x) = Ok x
-    same_list (Err f) = Err (At f.line f.cause)
+only bytes (Ok list) (Ok other) h k = let e : Ok list ≡ Ok other = sym h ∙ reads_forced bytes other k in ap answer_of e
 only bytes (Ok list) (Err (At n cause)) h k = let e : Ok list ≡ fails n cause = sym h ∙ forced bytes n cause k in absurd (cc)
 only bytes (Ok list) (Err OutOfMemory) h k = tt
 only bytes (Err (At n cause)) (Ok other) h k = let e : fails n cause ≡ Ok other = sym h ∙ reads_forced bytes other k in absurd (cc)
-only bytes (Err (At n cause)) (Err (At m other)) h k = let e : fails n cause ≡ fails m other = sym h ∙ forced bytes m other k in ap same_fault e
-  where
-    same_fault : Result (List Assignment) Fault → Result (List Assignment) TextFault
-    same_fault (Ok x) = Ok x
-    same_fault (Err f) = Err (At f.line f.cause)
+only bytes (Err (At n cause)) (Err (At m other)) h k = let e : fails n cause ≡ fails m other = sym h ∙ forced bytes m other k in ap answer_of e
 only bytes (Err (At n cause)) (Err OutOfMemory) h k = tt
 only bytes (Err OutOfMemory) a h k = tt
+
+-- every file has an answer other than want of memory, and one alone
+answered : (bytes : List ℕ) (a : Result (List Assignment) TextFault) → Reads bytes a → Answers a (read_of bytes)
+answered bytes (Ok list) h = reads_forced bytes list h
+answered bytes (Err (At n cause)) h = forced bytes n cause h
+answered bytes (Err OutOfMemory) h = tt
+
+pub one_answer : (bytes : List ℕ) (a b : Result (List Assignment) TextFault) → Reads bytes a → Reads bytes b → Agree a b
+one_answer bytes a b h k = only bytes a b (answered bytes a h) k
+
+answers : (r : Result (List Assignment) Fault) → Answers (answer_of r) r
+answers (Ok list) = refl
+answers (Err f) = refl
+
+pub some_answer : (bytes : List ℕ) → Reads bytes (answer_of (read_of bytes))
+some_answer bytes = reads bytes (answer_of (read_of bytes)) (answers (read_of bytes))

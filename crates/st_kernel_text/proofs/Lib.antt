@@ -5,7 +5,9 @@ pub mod Grows
 pub mod Heads
 pub mod LineLaws
 pub mod Live
+pub mod LiveLists
 pub mod LiveNames
+pub mod LiveSigns
 pub mod LiveTokens
 pub mod LiveValues
 pub mod ReadAll

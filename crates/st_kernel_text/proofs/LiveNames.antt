@@ -1,5 +1,5 @@
 -- One more byte between assignments, in a name, behind it and in its sign.
-use Rattle.std.proofs.Common.{inl, inr, ◌≡◌, ℕ, ◌<◌, true, false, ◌&&◌, List, [], ◌∷◌, ◌++◌, length, None, refl, ap, sym, ◌∙◌, subst, arith, append_assoc}
+use Rattle.std.proofs.Common.{inl, ◌≡◌, ℕ, ◌<◌, true, false, ◌&&◌, List, [], ◌∷◌, ◌++◌, length, None, refl, ap, sym, ◌∙◌, subst, arith, append_assoc}
 use Rattle.std.specs.Prelude.{◌==◌}
 use Rattle.std.specs.List.{list_all}
 use Rattle.std.proofs.lemmas.Bool.{and_parts, and_from, cond_both, eqb-true, eq-eqb, or_from, both_ways}
@@ -13,13 +13,13 @@ use Rattle.st_kernel_text.specs.declared.assignment.Assignment.{Assignment}
 use Rattle.st_kernel_text.specs.declared.assignment.Mode.TheVariants.{Set, Add}
 use Rattle.st_kernel_text.specs.declared.fault.TextCause.TheVariants.{NoName, NoSign}
 use Rattle.st_kernel_text.specs.declared.parser.Stage.{Stage}
-use Rattle.st_kernel_text.specs.declared.parser.Stage.TheVariants.{Name, Named, Plus, Signed}
+use Rattle.st_kernel_text.specs.declared.parser.Stage.TheVariants.{Name, Named, Signed}
 use Rattle.st_kernel_text.proofs.Forced.{front_bytes}
-use Rattle.st_kernel_text.proofs.Grows.{all_more, all_space, append3, snoc_some}
+use Rattle.st_kernel_text.proofs.Grows.{all_more, all_space, snoc_some}
 use Rattle.st_kernel_text.proofs.Heads.{name_from, name_test, plus_parts, plus_snoc, without_last_snoc}
-use Rattle.st_kernel_text.proofs.Live.{waits_signed, live_between, live_naming, live_named, live_plus, live_waits, Outcome, goes_on, breaks_off}
+use Rattle.st_kernel_text.proofs.Live.{waits_signed, live_between, live_naming, live_named, live_waits, Outcome, goes_on, breaks_off}
 use Rattle.st_kernel_text.proofs.ReadValues.{split, cut, no_bytes}
-use Rattle.st_kernel_text.proofs.States.{naming, signed, plain-append, name_byte_no_space, blank_no_name_byte}
+use Rattle.st_kernel_text.proofs.States.{naming, signed, plain-append, name_byte_no_space}
 
 no_empty_name : IsName [] → ⊥
 no_empty_name h = absurd (omega (arith, h.some))
@@ -110,7 +110,7 @@ plus_word : (w front : List ℕ) → w ≡ front ++ 43 ∷ [] → ends_in_plus w
 plus_word w front e = ap ends_in_plus e ∙ plus_snoc front 43
 
 -- a head whose sign is its last token
-set_head : (word blanks : Data) (name : List ℕ) (n : ℕ) → IsName name → plain word ≡ name → list_all is_blank (plain blanks) ≡ true
+pub set_head : (word blanks : Data) (name : List ℕ) (n : ℕ) → IsName name → plain word ≡ name → list_all is_blank (plain blanks) ≡ true
     → SpellsHead name Set n (word ++ (blanks ++ (n, 61) ∷ []))
 set_head word blanks name n h is b = record {
   word = word;
@@ -125,7 +125,7 @@ set_head word blanks name n h is b = record {
   whole = refl;
 }
 
-add_head : (word blanks : Data) (name : List ℕ) (k n : ℕ) → IsName name → plain word ≡ name → list_all is_blank (plain blanks) ≡ true
+pub add_head : (word blanks : Data) (name : List ℕ) (k n : ℕ) → IsName name → plain word ≡ name → list_all is_blank (plain blanks) ≡ true
     → SpellsHead name Add n (word ++ (blanks ++ ((k, 43) ∷ ((n, 61) ∷ []))))
 add_head word blanks name k n h is b = record {
   word = word;
@@ -140,10 +140,10 @@ add_head word blanks name k n h is b = record {
   whole = refl;
 }
 
-byte_is : (n b c : ℕ) (t : Data) → (b == c) ≡ true → t ++ (n, b) ∷ [] ≡ t ++ (n, c) ∷ []
+pub byte_is : (n b c : ℕ) (t : Data) → (b == c) ≡ true → t ++ (n, b) ∷ [] ≡ t ++ (n, c) ∷ []
 byte_is n b c t e = ap (λ (z : ℕ). t ++ (n, z) ∷ []) (eqb-true b c e)
 
-byte_is2 : (t : Data) (k n b : ℕ) → (b == 61) ≡ true → t ++ ((k, 43) ∷ ((n, b) ∷ [])) ≡ t ++ ((k, 43) ∷ ((n, 61) ∷ []))
+pub byte_is2 : (t : Data) (k n b : ℕ) → (b == 61) ≡ true → t ++ ((k, 43) ∷ ((n, b) ∷ [])) ≡ t ++ ((k, 43) ∷ ((n, 61) ∷ []))
 byte_is2 t k n b e = ap (λ (z : ℕ). t ++ ((k, 43) ∷ ((n, z) ∷ []))) (eqb-true b 61 e)
 
 plus_name_byte : is_name_byte 43 ≡ false → ⊥
@@ -187,7 +187,7 @@ on_added done t front word n b s some bytes w byte test =
     (λ f e is h. not_named (without_last (plain word)) name
     (subst IsName (sym (ap without_last is ∙ without_last_snoc f 43)) h))))
 
-at_sign : (done : List Assignment) (t front word blanks rest : Data) (n b : ℕ) → SpellsAll done front → IsName (plain word)
+pub at_sign : (done : List Assignment) (t front word blanks rest : Data) (n b : ℕ) → SpellsAll done front → IsName (plain word)
     → list_all is_blank (plain blanks) ≡ true → EndsName (blanks ++ ((n, b) ∷ rest)) → t ≡ front ++ (word ++ blanks)
     → is_blank b ≡ false → (b == 61) ≡ false → (b == 43) ≡ false → HasFault (t ++ ((n, b) ∷ rest)) n NoSign
 at_sign done t front word blanks rest n b s name blank ends w x y z = record {
@@ -259,87 +259,3 @@ on_naming done t front word n b s some bytes w =
     (λ name. breaks_off t n b _ (λ rest. at_name done t front word rest n b s some bytes w byte
     (not_named (plain word) name)
     (λ f e is h. both_ways _ test (and_from _ _ (eq-eqb b 61 e) (plus_word (plain word) f is)))))))
-
-blank_begins : (x : ℕ × ℕ) (blanks : Data) → list_all is_blank (plain (x ∷ blanks)) ≡ true → is_name_byte x.1 ≡ false
-blank_begins x blanks h = blank_no_name_byte x.1 (and_parts (is_blank x.1) (list_all is_blank (plain blanks)) h).0
-
-pub on_named : (done : List Assignment) (t front word blanks : Data) (x : ℕ × ℕ) (n b : ℕ) → SpellsAll done front → IsName (plain word)
-    → list_all is_blank (plain (x ∷ blanks)) ≡ true → t ≡ front ++ (word ++ (x ∷ blanks)) → Outcome t n b (step_of (naming Named done (plain word)) n b)
-unfolding step_of
-on_named done t front word blanks x n b s name bs w =
-    let longer : t ++ (n, b) ∷ [] ≡ front ++ (word ++ ((x ∷ blanks) ++ (n, b) ∷ [])) =
-    ap (λ (z : Data). z ++ (n, b) ∷ []) w ∙ append3 front word (x ∷ blanks) ((n, b) ∷ []) in
-    cond_both (is_blank b) _ _ (Outcome t n b)
-    (λ blank. goes_on t n b (naming Named done (plain word)) (live_named (record {
-      done = done;
-      front = front;
-      word = word;
-      blank = x;
-      blanks = blanks ++ (n, b) ∷ [];
-      is = refl;
-      spells = s;
-      name_is = name;
-      are_blanks = all_more is_blank (x ∷ blanks) n b bs blank;
-      whole = longer;
-    })))
-    (λ blank. cond_both (b == 61) _ _ (Outcome t n b)
-    (λ equals. goes_on t n b (signed Signed done (plain word) Set n None [] []) (live_waits (waits_signed (record {
-      done = done;
-      name = plain word;
-      mode = Set;
-      line = n;
-      is = refl;
-      head = record {
-        front = front;
-        head = word ++ ((x ∷ blanks) ++ (n, 61) ∷ []);
-        spells = s;
-        head_is = set_head word (x ∷ blanks) (plain word) n name refl bs;
-        whole = longer ∙ ap (λ (z : Data). front ++ (word ++ z)) (byte_is n b 61 (x ∷ blanks) equals);
-      };
-    }))))
-    (λ equals. cond_both (b == 43) _ _ (Outcome t n b)
-    (λ plus. goes_on t n b (naming Plus done (plain word)) (live_plus (record {
-      done = done;
-      front = front;
-      word = word;
-      blank = x;
-      blanks = blanks;
-      line = n;
-      is = refl;
-      spells = s;
-      name_is = name;
-      are_blanks = bs;
-      whole = longer ∙ ap (λ (z : Data). front ++ (word ++ z)) (byte_is n b 43 (x ∷ blanks) plus);
-    })))
-    (λ plus. breaks_off t n b _ (λ rest. at_sign done t front word (x ∷ blanks) rest n b s name bs (blank_begins x blanks bs) w blank equals plus))))
-
-pub on_plus : (done : List Assignment) (t front word blanks : Data) (x : ℕ × ℕ) (k n b : ℕ) → SpellsAll done front → IsName (plain word)
-    → list_all is_blank (plain (x ∷ blanks)) ≡ true → t ≡ front ++ (word ++ ((x ∷ blanks) ++ (k, 43) ∷ [])) → Outcome t n b (step_of (naming Plus done (plain word)) n b)
-unfolding step_of
-on_plus done t front word blanks x k n b s name bs w =
-    cond_both (b == 61) _ _ (Outcome t n b)
-    (λ equals. goes_on t n b (signed Signed done (plain word) Add n None [] []) (live_waits (waits_signed (record {
-      done = done;
-      name = plain word;
-      mode = Add;
-      line = n;
-      is = refl;
-      head = record {
-        front = front;
-        head = word ++ ((x ∷ blanks) ++ ((k, 43) ∷ ((n, 61) ∷ [])));
-        spells = s;
-        head_is = add_head word (x ∷ blanks) (plain word) k n name refl bs;
-        whole = ap (λ (z : Data). z ++ (n, b) ∷ []) w ∙ append3 front word ((x ∷ blanks) ++ (k, 43) ∷ []) ((n, b) ∷ [])
-            ∙ ap (λ (z : Data). front ++ (word ++ z)) (append_assoc (x ∷ blanks) ((k, 43) ∷ []) ((n, b) ∷ []) ∙ byte_is2 (x ∷ blanks) k n b equals);
-      };
-    }))))
-    (λ equals. breaks_off t n b _ (λ rest. record {
-      row = behind_name;
-      before = front ++ (word ++ (x ∷ blanks));
-      rest = (k, 43) ∷ ((n, b) ∷ rest);
-      stands = record { done = done; front = front; word = word; blanks = x ∷ blanks; spells = s; name_is = name; are_blanks = bs; ends = blank_begins x blanks bs; whole = refl };
-      breaks = (refl, inr (record { line = k; byte = b; more = rest; other = equals; whole = refl }));
-      whole = ap (λ (z : Data). z ++ ((n, b) ∷ rest)) w ∙ append3 front word ((x ∷ blanks) ++ (k, 43) ∷ []) ((n, b) ∷ rest)
-          ∙ ap (λ (z : Data). front ++ (word ++ z)) (append_assoc (x ∷ blanks) ((k, 43) ∷ []) ((n, b) ∷ rest))
-          ∙ sym (append3 front word (x ∷ blanks) ((k, 43) ∷ ((n, b) ∷ rest)));
-    }))

@@ -21,8 +21,10 @@ use Rattle.st_kernel_text.specs.declared.parser.Stage.TheVariants.{Run, Quote}
 use Rattle.st_kernel_text.specs.declared.value.Value.TheVariants.{Number, Text}
 use Rattle.st_kernel_text.proofs.Grows.{all_more, quoted_byte, quoted_quote}
 use Rattle.st_kernel_text.proofs.Live.{Waits, waits_signed, waits_listed, Live, live_between, live_naming, live_named, live_plus, live_waits, live_run, live_text, live_quote, live_closed, Outcome, goes_on, breaks_off, went_on, broke_off}
-use Rattle.st_kernel_text.proofs.LiveNames.{on_between, on_naming, on_named, on_plus}
-use Rattle.st_kernel_text.proofs.LiveValues.{OpensValue, value_breaks, on_signed, on_list, on_behind, put_value}
+use Rattle.st_kernel_text.proofs.LiveNames.{on_between, on_naming}
+use Rattle.st_kernel_text.proofs.LiveSigns.{on_named, on_plus}
+use Rattle.st_kernel_text.proofs.LiveLists.{on_list, put_value}
+use Rattle.st_kernel_text.proofs.LiveValues.{OpensValue, value_breaks, on_signed, on_behind}
 use Rattle.st_kernel_text.proofs.ReadValues.{in_run, in_text, at_quote, put_same}
 use Rattle.st_kernel_text.proofs.Runs.{run_reads, run_none}
 use Rattle.st_kernel_text.proofs.States.{plain-append, follow_no_stop, run_no_quote}
