@@ -155,3 +155,93 @@ fn append(
     kernels.push(Kernel { name, assignments })?;
     Ok(())
 }
+
+#[cfg(test)]
+mod tests {
+    use super::*;
+    use st_decimal::Dec;
+    use st_kernel_text::{Assignment, Mode, ValueList};
+    use std::test::Fail;
+
+    /// One assignment of one value.
+    fn one(alloc: Global, name: &[u8], mode: Mode, value: Value) -> Result<AssignmentList, Fail> {
+        let mut values = ValueList::new(alloc);
+        values.push(value)?;
+        let mut list = AssignmentList::new(alloc);
+        list.push(Assignment {
+            name: KText::from_slice(alloc, name)?,
+            mode,
+            values,
+        })?;
+        Ok(list)
+    }
+
+    fn number(digits: i128) -> Value {
+        Value::Number(Dec { digits, tens: 0 })
+    }
+
+    fn digits_at(pool: &Pool, name: &[u8], i: usize) -> Option<i128> {
+        match pool.value(name, i) {
+            Some(Value::Number(number)) => Some(number.digits),
+            _ => None,
+        }
+    }
+
+    #[test]
+    fn keeps_kernels(rt: HostRuntime) -> Result<(), Fail> {
+        let alloc = rt.alloc();
+        let mut pool = Pool::new(alloc);
+        assert!(rt;
+            pool.load(b"a", one(alloc, b"X", Mode::Set, number(1))?)
+                .is_ok()
+        );
+        assert!(rt;
+            pool.load(b"b", one(alloc, b"X", Mode::Add, number(2))?)
+                .is_ok()
+        );
+        assert!(rt;
+            pool.load(b"a", one(alloc, b"X", Mode::Set, number(3))?)
+                .is_ok()
+        );
+        assert_eq!(rt; pool.len(), 3);
+        assert_eq!(rt; pool.count(b"X"), 1);
+        assert_eq!(rt; digits_at(&pool, b"X", 0), Some(3));
+        assert!(rt; pool.unload(b"a").is_ok());
+        assert_eq!(rt; pool.count(b"X"), 2);
+        assert_eq!(rt; digits_at(&pool, b"X", 0), Some(1));
+        assert_eq!(rt; digits_at(&pool, b"X", 1), Some(2));
+        assert_eq!(rt; digits_at(&pool, b"X", 2), None);
+        assert!(rt; pool.unload(b"a").is_ok());
+        assert_eq!(rt; pool.unload(b"a"), Err(NotLoaded));
+        match pool.name_at(0) {
+            Some(name) => assert_eq!(rt; name, b"b".as_slice()),
+            None => assert!(rt; false),
+        }
+        assert!(rt; pool.name_at(1).is_none());
+        pool.clear();
+        assert_eq!(rt; pool.len(), 0);
+        assert_eq!(rt; pool.count(b"X"), 0);
+        Ok(())
+    }
+
+    #[test]
+    fn knows_kinds(rt: HostRuntime) -> Result<(), Fail> {
+        let alloc = rt.alloc();
+        let mut pool = Pool::new(alloc);
+        let text = Value::Text(KText::from_slice(alloc, b"text")?);
+        assert_eq!(rt; pool.kind(b"X"), Kind::Absent);
+        assert!(rt;
+            pool.load(b"a", one(alloc, b"X", Mode::Add, number(1))?)
+                .is_ok()
+        );
+        assert!(rt; pool.load(b"a", one(alloc, b"Y", Mode::Set, text)?).is_ok());
+        assert_eq!(rt; pool.kind(b"X"), Kind::Numbers);
+        assert_eq!(rt; pool.kind(b"Y"), Kind::Texts);
+        assert!(rt;
+            pool.load(b"b", one(alloc, b"Y", Mode::Add, number(1))?)
+                .is_ok()
+        );
+        assert_eq!(rt; pool.kind(b"Y"), Kind::Mixed);
+        Ok(())
+    }
+}
