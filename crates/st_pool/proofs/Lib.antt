@@ -1,0 +1,4 @@
+mod FoundLaws
+mod KindsLaws
+mod PlaceLaws
+mod VariableLaws
