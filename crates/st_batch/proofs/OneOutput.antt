@@ -20,7 +20,7 @@ use Rattle.st_batch.specs.declared.load.TheConstants.{MAX_FILE}
 use Rattle.st_batch.specs.declared.status.Status.{Status}
 use Rattle.st_batch.specs.declared.status.Status.TheVariants.{Done, SomeRefused, BadWords, BadSetup, WriteFault, OutOfMemory}
 use Rattle.st_batch.specs.NumbersMachine.{numbers_in}
-use Rattle.st_batch.specs.Variable.{values_of}
+use Rattle.st_pool.specs.Variable.{values_of}
 use Rattle.st_batch.specs.LeapSeconds.{GiveTable, tai_of}
 use Rattle.st_batch.specs.Outcome.{IsTruncated, MayAnswer, RunsTo, line_of, status_of, HoldsKernel, HoldsFault, HoldsTooMuch, SetupGives, Answered, SetupRefused}
 use Rattle.st_batch.specs.Laws.{OneOutput}

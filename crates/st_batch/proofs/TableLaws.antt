@@ -19,7 +19,7 @@ use Rattle.st_batch.specs.LeapSeconds.{Rise, IsMidnight, IsInRange, AreInRange, 
 use Rattle.st_batch.specs.LeapSecondsMachine.{is_midnight, is_pair, is_rise, is_table}
 use Rattle.st_batch.specs.LeapTable.{PairUp, IsTableOf}
 use Rattle.st_batch.specs.NumbersMachine.{numbers_in, are_numbers}
-use Rattle.st_batch.specs.Variable.{values_of}
+use Rattle.st_pool.specs.Variable.{values_of}
 use Rattle.st_batch.proofs.Decimals.{one-units, one-count}
 use Rattle.st_batch.proofs.Tests.{and-left, and-right}
 

@@ -8,7 +8,7 @@ use Rattle.st_batch.specs.LeapSeconds.{GiveTable}
 use Rattle.st_batch.specs.LeapSecondsMachine.{is_table}
 use Rattle.st_batch.specs.LeapTable.{IsPair, PairUp, IsTableOf}
 use Rattle.st_batch.specs.NumbersMachine.{numbers_in, are_numbers}
-use Rattle.st_batch.specs.Variable.{values_of}
+use Rattle.st_pool.specs.Variable.{values_of}
 use Rattle.st_batch.proofs.Decimals.{told-units, told-count}
 use Rattle.st_batch.proofs.TableLaws.{passes-table, fails-table, given-by, not-given, text-given}
 

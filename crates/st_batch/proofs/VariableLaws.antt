@@ -10,7 +10,7 @@ use Rattle.st_kernel_text.specs.declared.value.Value.{Value}
 use Rattle.st_kernel_text.specs.declared.value.Value.TheVariants.{Number, Text}
 use Rattle.st_decimal.specs.declared.number.Dec.{Dec}
 use Rattle.st_batch.specs.NumbersMachine.{numbers_in, are_numbers, list_after, all_after}
-use Rattle.st_batch.specs.Variable.{is_set, since_last_set, values_of}
+use Rattle.st_pool.specs.Variable.{is_set, since_last_set, values_of}
 
 pub numbers_in-append : (a b : List Value) → numbers_in (a ++ b) ≡ numbers_in a ++ numbers_in b
 numbers_in-append [] b = refl

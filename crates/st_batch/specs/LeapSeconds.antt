@@ -8,7 +8,7 @@ use Rattle.st_decimal.specs.Scaling.{IsUnits18, IsWhole}
 use Rattle.st_kernel_text.specs.declared.assignment.Assignment.{Assignment}
 use Rattle.st_kernel_text.specs.declared.value.Value.{Value}
 use Rattle.st_kernel_text.specs.declared.value.Value.TheVariants.{Number}
-use Rattle.st_batch.specs.Variable.{values_of}
+use Rattle.st_pool.specs.Variable.{values_of}
 use Rattle.st_batch.specs.declared.leap_seconds.LeapPair.{LeapPair}
 
 -- each pair's date is later than the one before, and its count one more

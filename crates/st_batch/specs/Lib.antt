@@ -13,6 +13,5 @@ pub mod Taken
 pub mod Texts
 pub mod UtcTime
 pub mod UtcTimeMachine
-pub mod Variable
 pub mod Words
 pub mod WordsMachine

@@ -4,7 +4,7 @@ use Rattle.st_decimal.specs.declared.number.Dec.{Dec}
 use Rattle.st_kernel_text.specs.declared.assignment.Assignment.{Assignment}
 use Rattle.st_kernel_text.specs.declared.value.Value.{Value}
 use Rattle.st_kernel_text.specs.declared.value.Value.TheVariants.{Number, Text}
-use Rattle.st_batch.specs.Variable.{is_set}
+use Rattle.st_pool.specs.Variable.{is_set}
 
 abbrev pub numbers_in : List Value → List Dec
 numbers_in [] = []

@@ -1,7 +1,7 @@
 //! The values that a kernel gives a variable.
 
 ghost use Rattle.std.specs.Prelude.{◌≡◌, ◌++◌, ◌&&◌, IsTrue, OnOk, IfOk};
-ghost use Rattle.st_batch.specs.Variable.{values_of};
+ghost use Rattle.st_pool.specs.Variable.{values_of};
 ghost use Rattle.st_batch.specs.NumbersMachine as machine;
 ghost use Rattle.st_batch.specs.NumbersMachine.{numbers_in, are_numbers};
 

@@ -1,6 +1,6 @@
 use Rattle.std.proofs.Common.{◌≡◌, take}
 use Rattle.st_batch.specs.NumbersMachine.{numbers_in, are_numbers}
-use Rattle.st_batch.specs.Variable.{values_of}
+use Rattle.st_pool.specs.Variable.{values_of}
 use Rattle.st_batch.proofs.variable.numbers_of.Given as goal
 
 abbrev pub invariant-loop-assignment : goal.invariant-loop-assignment
