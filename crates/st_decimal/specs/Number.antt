@@ -1,4 +1,4 @@
--- The numbers of text kernels, after NAIF's Kernel Required Reading, "Numeric values": an optional
+-- The numbers of text kernels, after NAIF's Kernel Required Reading: an optional
 -- sign, digits with an optional point, and an optional exponent behind `E`, `e`, `D` or `d`. The
 -- parts are the bytes as they stand in the text.
 use Rattle.std.specs.Prelude.{◌≡◌, ℕ, ◌+◌, ◌<◌, ◌≤◌, Bool, List, [], ◌∷◌, ◌++◌, length, take, Option, Some, None, ◌==◌, ◌||◌, IsTrue, ⊤}

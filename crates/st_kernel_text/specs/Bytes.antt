@@ -1,4 +1,4 @@
--- The bytes of a kernel, after NAIF's Kernel Required Reading, "Text Kernel Specifications". In data
+-- The bytes of a kernel, after NAIF's Kernel Required Reading. In data
 -- only the tab and the printable bytes of ASCII may stand; 10 stands for the end of a line.
 use Rattle.std.specs.Prelude.{ℕ, Bool, not, ◌==◌, ◌&&◌, ◌||◌, nat_le}
 use Rattle.st_text.specs.Bytes.{is_blank}

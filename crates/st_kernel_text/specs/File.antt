@@ -1,4 +1,4 @@
--- A kernel file by its lines, after NAIF's Kernel Required Reading, "Text Kernel Specifications": data
+-- A kernel file by its lines, after NAIF's Kernel Required Reading: data
 -- stand between the markers \begindata and \begintext, all else is commentary.
 use Rattle.std.specs.Prelude.{◌≡◌, ℕ, ◌+◌, ◌<◌, ◌≤◌, Bool, true, false, ◌&&◌, List, [], ◌∷◌, ◌++◌, length, drop, map, codes, nat_eq, Result, Ok, Err, ⊤, ◌⊎◌, if◌then◌else◌}
 use Rattle.std.specs.List.{list_all, starts_with}

@@ -1,4 +1,4 @@
--- The assignments of a kernel, after NAIF's Kernel Required Reading, "Variable Assignments". The
+-- The assignments of a kernel, after NAIF's Kernel Required Reading. The
 -- limit of 32 bytes for a name is that of the Toolkit's kernel pool. 40 is `(`, 41 `)`, 43 `+`, 61 `=`
 -- and 10 the end of a line.
 use Rattle.std.specs.Prelude.{◌≡◌, ℕ, ◌<◌, ◌≤◌, Bool, true, false, List, [], ◌∷◌, ◌++◌, length, IsTrue, ⊤, ◌⊎◌}

@@ -1,4 +1,4 @@
--- What a value of a kernel is, after NAIF's Kernel Required Reading, "Variable Values": a string
+-- What a value of a kernel is, after NAIF's Kernel Required Reading: a string
 -- between quotes, a date behind an `@`, or a number. 39 is `'`, 64 is `@`, 10 is the end of a line.
 use Rattle.std.specs.Prelude.{◌≡◌, ℕ, ℤ, ◌≤◌, Bool, not, List, [], ◌∷◌, ◌++◌, length, Ok, ◌==◌, ◌||◌, IsTrue, MatchBool, if◌then◌else◌}
 use Rattle.std.specs.List.{list_all}

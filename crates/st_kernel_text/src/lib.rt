@@ -1,4 +1,10 @@
-//! Text kernels: every file is read to its assignments, or to its first fault.
+//! Text kernels, after NAIF's Kernel Required Reading: every file is read to its assignments, or to its
+//! first fault and that fault's line.
+//!
+//! What a file reads to, and which fault it has, is said in `specs/`: `File` by lines, `Grammar` and
+//! `Values` by spellings, `Faults` by the token that breaks. `read_kernel` answers that and nothing
+//! else. The reader takes a file line by line and a data line byte by byte; what it has so far is a
+//! value, so that a file may as well come in pieces.
 #![tactic(auto)]
 
 mod assignment;

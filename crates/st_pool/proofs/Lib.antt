@@ -1,3 +1,4 @@
+mod Examples
 mod FoundLaws
 mod KindsLaws
 mod PlaceLaws

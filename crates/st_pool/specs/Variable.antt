@@ -1,4 +1,4 @@
--- The values of a kernel variable. Source: Kernel Required Reading, "Assignments" and "Additional Values": `=` sets the
+-- The values of a kernel variable. Source: Kernel Required Reading, on assignments: `=` sets the
 -- values, and `+=` adds to them.
 use Rattle.std.specs.Prelude.{ℕ, Bool, true, false, if◌then◌else◌, bytes_eq, List, [], ◌∷◌, filter}
 use Rattle.std.specs.List.{flat_map, list_any}
