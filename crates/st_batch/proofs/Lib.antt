@@ -1,14 +1,9 @@
 pub mod Decimals
 pub mod KernelLaws
 pub mod Numbers
-pub mod OneOutput
 pub mod PairsLaws
-pub mod RunLaws
 pub mod ScanLaws
 pub mod TableLaws
 pub mod Tests
-pub mod Told
 pub mod UtcFields
 pub mod UtcLaws
-pub mod VariableLaws
-pub mod WordsLaws

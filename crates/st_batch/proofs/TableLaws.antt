@@ -11,7 +11,6 @@ use Rattle.st_dates.specs.AtDate.{moment}
 use Rattle.st_dates.specs.declared.label.TheConstants.{FIRST, LAST}
 use Rattle.st_decimal.specs.declared.number.Dec.{Dec}
 use Rattle.st_decimal.specs.Scaling.{IsUnits18, IsWhole}
-use Rattle.st_kernel_text.specs.declared.assignment.Assignment.{Assignment}
 use Rattle.st_kernel_text.specs.declared.value.Value.{Value}
 use Rattle.st_kernel_text.specs.declared.value.Value.TheVariants.{Number, Text}
 use Rattle.st_batch.specs.declared.leap_seconds.LeapPair.{LeapPair}
@@ -19,7 +18,8 @@ use Rattle.st_batch.specs.LeapSeconds.{Rise, IsMidnight, IsInRange, AreInRange, 
 use Rattle.st_batch.specs.LeapSecondsMachine.{is_midnight, is_pair, is_rise, is_table}
 use Rattle.st_batch.specs.LeapTable.{PairUp, IsTableOf}
 use Rattle.st_batch.specs.NumbersMachine.{numbers_in, are_numbers}
-use Rattle.st_pool.specs.Variable.{values_of}
+use Rattle.st_pool.specs.Variable.{loaded_values}
+use Rattle.st_pool.specs.declared.kernel.Kernel.{Kernel}
 use Rattle.st_batch.proofs.Decimals.{one-units, one-count}
 use Rattle.st_batch.proofs.Tests.{and-left, and-right}
 
@@ -189,26 +189,26 @@ up-spell ((Number c) ∷ (Number d) ∷ values) (p ∷ pairs) n (is, more) = (is
 abbrev pub delta_at : List ℕ
 delta_at = codes "DELTET/DELTA_AT"
 
--- the table of the numbers is the one that the assignments give
-pub given-by : (assignments : List Assignment) (numbers : List Dec) (table : List LeapPair) → numbers ≡ numbers_in (values_of delta_at assignments)
-    → are_numbers (values_of delta_at assignments) ≡ true → IsTableOf numbers table → GiveTable assignments table
-given-by assignments numbers table same all t =
+-- the table of the numbers is the one that the loaded kernels give
+pub given-by : (loaded : List Kernel) (numbers : List Dec) (table : List LeapPair) → numbers ≡ numbers_in (loaded_values delta_at loaded)
+    → are_numbers (loaded_values delta_at loaded) ≡ true → IsTableOf numbers table → GiveTable loaded table
+given-by loaded numbers table same all t =
     let P : List Dec → Type 0 = λ ns. PairUp ns table in
-    record { spelled = up-spell (values_of delta_at assignments) table all (subst P same t.pairs); is_table = t.is_table }
+    record { spelled = up-spell (loaded_values delta_at loaded) table all (subst P same t.pairs); is_table = t.is_table }
 
 -- the same of what a call answered, where a view of the answer is a list
-pub given : {A E : Type 0} (items : A → List LeapPair) (assignments : List Assignment) (numbers : List Dec) (r : Result A E) → numbers ≡ numbers_in (values_of delta_at assignments)
-    → are_numbers (values_of delta_at assignments) ≡ true → IfOk r (λ t. IsTableOf numbers (items t)) → IfOk r (λ t. GiveTable assignments (items t))
-given items assignments numbers (Ok t) same all is = given-by assignments numbers (items t) same all is
-given items assignments numbers (Err e) same all is = tt
+pub given : {A E : Type 0} (items : A → List LeapPair) (loaded : List Kernel) (numbers : List Dec) (r : Result A E) → numbers ≡ numbers_in (loaded_values delta_at loaded)
+    → are_numbers (loaded_values delta_at loaded) ≡ true → IfOk r (λ t. IsTableOf numbers (items t)) → IfOk r (λ t. GiveTable loaded (items t))
+given items loaded numbers (Ok t) same all is = given-by loaded numbers (items t) same all is
+given items loaded numbers (Err e) same all is = tt
 
-pub not-given : (assignments : List Assignment) (numbers : List Dec) (table : List LeapPair) → numbers ≡ numbers_in (values_of delta_at assignments)
-    → ((t : List LeapPair) → IsTableOf numbers t → ⊥) → GiveTable assignments table → ⊥
-not-given assignments numbers table same none g =
-    let s = spell-up (values_of delta_at assignments) table g.spelled g.is_table.in_range in
+pub not-given : (loaded : List Kernel) (numbers : List Dec) (table : List LeapPair) → numbers ≡ numbers_in (loaded_values delta_at loaded)
+    → ((t : List LeapPair) → IsTableOf numbers t → ⊥) → GiveTable loaded table → ⊥
+not-given loaded numbers table same none g =
+    let s = spell-up (loaded_values delta_at loaded) table g.spelled g.is_table.in_range in
     let P : List Dec → Type 0 = λ ns. PairUp ns table in
     none table (record { pairs = subst P (sym same) s.1; is_table = g.is_table })
 
 -- values that aren't all numbers give no table
-pub text-given : (assignments : List Assignment) (table : List LeapPair) → are_numbers (values_of delta_at assignments) ≡ false → GiveTable assignments table → ⊥
-text-given assignments table some g = false≢true (sym some ∙ (spell-up (values_of delta_at assignments) table g.spelled g.is_table.in_range).0)
+pub text-given : (loaded : List Kernel) (table : List LeapPair) → are_numbers (loaded_values delta_at loaded) ≡ false → GiveTable loaded table → ⊥
+text-given loaded table some g = false≢true (sym some ∙ (spell-up (loaded_values delta_at loaded) table g.spelled g.is_table.in_range).0)

@@ -1,17 +1,39 @@
 -- What the definitions of a run say by themselves, as laws.
-use Rattle.std.specs.Prelude.{◌≡◌, ℕ, List}
+use Rattle.std.specs.Prelude.{◌≡◌, ◌≢◌, ℕ, ◌<◌, ◌^◌, ◌-◌, Option, Some, List, ⊤}
 use Rattle.st_outside.specs.Entries.{Entries}
+use Rattle.st_pool.specs.declared.kernel.Kernel.{Kernel}
 use Rattle.st_batch.specs.declared.answer.Answer.{Answer}
-use Rattle.st_batch.specs.declared.leap_seconds.LeapPair.{LeapPair}
+use Rattle.st_batch.specs.declared.answer.Answer.TheVariants.{Refused}
+use Rattle.st_batch.specs.declared.fault.LineFault.TheVariants.{FileFault}
 use Rattle.st_batch.specs.declared.status.Status.{Status}
-use Rattle.st_batch.specs.Outcome.{MayAnswer, Allowed}
+use Rattle.st_batch.specs.declared.status.Status.TheVariants.{Done, SomeRefused, BadWords, BadSetup}
+use Rattle.st_batch.specs.Outcome.{Outside, Outcome}
+use Rattle.st_batch.specs.Session.{MayAnswer}
 
--- Where no fault of the files may be answered, the words and the files allow one output, with one status.
+-- the run was not cut off
+abbrev pub IsComplete : Status → Type 0
+IsComplete Done = ⊤
+IsComplete SomeRefused = ⊤
+IsComplete (BadWords fault) = ⊤
+IsComplete (BadSetup cause) = ⊤
+IsComplete status = ⊥
+
+-- the files and the input tell their bytes, and the files' count of faults did not rise
+pub record IsTold (o : Outside) (files : Entries) (input : List ℕ) : Type 0 where
+  pub files_told : o.files ≡ Some files
+  pub input_told : o.input ≡ Some input
+  pub no_fault : o.now.faults ≡ o.before.faults
+  pub not_last : o.before.faults < 2 ^ 64 - 1
+
+-- Where the files had no fault the words, the files and the input allow one whole output, with one status.
 abbrev pub OneOutput : Type 0
 OneOutput =
-    (words : List (List ℕ)) (files : Entries) (first second : Status) (one other : List ℕ)
-    → Allowed ⊥ words files first one → Allowed ⊥ words files second other → (first ≡ second) × (one ≡ other)
+    (o : Outside) (files : Entries) (input : List ℕ) (words : List (List ℕ)) (first second : Status) (one other : List ℕ)
+    → IsTold o files input → IsComplete first → IsComplete second
+    → Outcome o words first one → Outcome o words second other → (first ≡ second) × (one ≡ other)
 
--- Every line has an answer by every table.
+-- Every line has an answer by every loaded list and all files, and one that names no fault of the files.
 abbrev pub EveryLineHasAnswer : Type 0
-EveryLineHasAnswer = (table : List LeapPair) (line : List ℕ) → (answer : Answer) × MayAnswer table line answer
+EveryLineHasAnswer =
+    (files : Option Entries) (loaded : List Kernel) (line : List ℕ)
+    → (answer : Answer) × ((after : List Kernel) × MayAnswer files loaded line answer after × (answer ≢ Refused FileFault))

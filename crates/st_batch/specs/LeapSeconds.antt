@@ -5,10 +5,10 @@ use Rattle.st_dates.specs.Label.{formal}
 use Rattle.st_dates.specs.declared.label.Label.{Label}
 use Rattle.st_dates.specs.declared.label.TheConstants.{FIRST, LAST}
 use Rattle.st_decimal.specs.Scaling.{IsUnits18, IsWhole}
-use Rattle.st_kernel_text.specs.declared.assignment.Assignment.{Assignment}
 use Rattle.st_kernel_text.specs.declared.value.Value.{Value}
 use Rattle.st_kernel_text.specs.declared.value.Value.TheVariants.{Number}
-use Rattle.st_pool.specs.Variable.{values_of}
+use Rattle.st_pool.specs.Variable.{loaded_values}
+use Rattle.st_pool.specs.declared.kernel.Kernel.{Kernel}
 use Rattle.st_batch.specs.declared.leap_seconds.LeapPair.{LeapPair}
 
 -- each pair's date is later than the one before, and its count one more
@@ -51,9 +51,9 @@ abbrev pub count_before : List LeapPair → ℤ
 count_before [] = pos 0
 count_before (p ∷ pairs) = pos p.count -ℤ pos 1
 
--- the kernel's assignments give the table by the values of DELTET/DELTA_AT
-pub record GiveTable (assignments : List Assignment) (table : List LeapPair) : Type 0 where
-  pub spelled : SpellPairs (values_of (codes "DELTET/DELTA_AT") assignments) table
+-- the loaded kernels give the table by the values of DELTET/DELTA_AT
+pub record GiveTable (loaded : List Kernel) (table : List LeapPair) : Type 0 where
+  pub spelled : SpellPairs (loaded_values (codes "DELTET/DELTA_AT") loaded) table
   pub is_table : IsLeapTable table
 
 -- the last pair whose date is at most a midnight

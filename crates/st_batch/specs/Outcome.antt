@@ -1,48 +1,24 @@
--- What a run may write and how it may end: the answers of the lines by the setup's table.
-use Rattle.std.specs.Prelude.{◌≡◌, ℕ, ◌≤◌, ◌<◌, ℤ, pos, ◌+ℤ◌, ◌*ℤ◌, ◌≤ℤ◌, ◌<ℤ◌, Bool, true, false, if◌then◌else◌, Result, Ok, Err, Option, Some, None, List, [], ◌∷◌, ◌++◌, length, codes, ⊤}
+-- What a run may write and how it may end.
+use Rattle.std.specs.Prelude.{◌≡◌, count_by, ℕ, ◌<◌, Bool, true, false, if◌then◌else◌, Ok, Err, Option, Some, None, List, [], ◌∷◌, ◌++◌, length, codes, ◌⊎◌, ⊤}
 use Rattle.std.specs.Io.KnownBytes.{Appends}
 use Rattle.std.specs.List.{flat_map, list_any}
-use Rattle.st_decimal.specs.Fixed.{fixed}
-use Rattle.st_dates.specs.declared.label.Label.{Label}
-use Rattle.st_kernel_text.specs.File.{Reads}
-use Rattle.st_kernel_text.specs.declared.assignment.Assignment.{Assignment}
-use Rattle.st_kernel_text.specs.declared.fault.TextCause.{TextCause}
-use Rattle.st_kernel_text.specs.declared.fault.TextFault.TheVariants.{At}
-use Rattle.st_outside.specs.Entries.{Entries, bytes_of}
+use Rattle.st_outside.specs.Entries.{Entries}
+use Rattle.st_pool.specs.declared.kernel.Kernel.{Kernel}
 use Rattle.st_batch.specs.declared.answer.Answer.{Answer}
 use Rattle.st_batch.specs.declared.answer.Answer.TheVariants.{Text, Refused}
+use Rattle.st_batch.specs.declared.fault.WordFault.TheVariants.{NotBuilt}
 use Rattle.st_batch.specs.declared.fault.LineFault.{LineFault}
-use Rattle.st_batch.specs.declared.fault.LineFault.TheVariants.{NoFile, FileFault, FileTooLong, KernelText, NotBuilt, BadTime}
-use Rattle.st_batch.specs.declared.leap_seconds.LeapPair.{LeapPair}
-use Rattle.st_batch.specs.declared.load.TheConstants.{MAX_FILE}
+use Rattle.st_batch.specs.declared.input.TheConstants.{MAX_INPUT}
+use Rattle.st_batch.specs.declared.job.Job.{Job}
+use Rattle.st_batch.specs.declared.job.Work.{Work}
+use Rattle.st_batch.specs.declared.job.Work.TheVariants.{Time, Batch}
 use Rattle.st_batch.specs.declared.status.Status.{Status}
-use Rattle.st_batch.specs.declared.status.Status.TheVariants.{Done, SomeRefused, BadWords, BadSetup, WriteFault, OutOfMemory}
-use Rattle.st_batch.specs.LeapSeconds.{GiveTable, tai_of}
-use Rattle.st_batch.specs.Texts.{word_text, refusal_text}
-use Rattle.st_batch.specs.UtcTime.{IsUtcTime}
-use Rattle.st_batch.specs.Words.{AskFor}
-
--- the greatest whole number of microseconds that is at most a time of this many units of 10^-18 s
-pub record IsTruncated (units micros : ℤ) : Type 0 where
-  pub from : (micros *ℤ pos 1_000_000_000_000) ≤ℤ units
-  pub to : units <ℤ ((micros +ℤ pos 1) *ℤ pos 1_000_000_000_000)
-
--- the text is the time in seconds, truncated to six decimals
-abbrev pub SpellsSeconds : ℤ → List ℕ → Type 0
-SpellsSeconds units text = (micros : ℤ) × IsTruncated units micros × (text ≡ fixed micros 6)
-
--- A line may be answered by the TAI of the UTC time that it is, and is refused where it is none.
-abbrev pub MayAnswer : List LeapPair → List ℕ → Answer → Type 0
-MayAnswer table line (Text text) = (label : Label) × IsUtcTime line label × SpellsSeconds (tai_of table label) text
-MayAnswer table line (Refused BadTime) = (label : Label) → IsUtcTime line label → ⊥
-MayAnswer table line (Refused _) = ⊥
-
--- each line may be given its answer
-abbrev pub RunsTo : List LeapPair → List (List ℕ) → List Answer → Type 0
-RunsTo table [] [] = ⊤
-RunsTo table [] (a ∷ answers) = ⊥
-RunsTo table (line ∷ lines) [] = ⊥
-RunsTo table (line ∷ lines) (a ∷ answers) = MayAnswer table line a × RunsTo table lines answers
+use Rattle.st_batch.specs.declared.status.Status.TheVariants.{Done, SomeRefused, BadWords, BadSetup, ReadFault, WriteFault, OutOfMemory, InputTooLong}
+use Rattle.st_batch.specs.Causes.{Counts, AreCounted, RoseBy, is_file_fault}
+use Rattle.st_batch.specs.Load.{LoadGives}
+use Rattle.st_batch.specs.Session.{RunsTo}
+use Rattle.st_batch.specs.Texts.{refusal_text}
+use Rattle.st_batch.specs.Words.{AskFor, AskForNone, AreLines, IsShortInput}
 
 -- an answer as a line of the output; 10 is the line feed
 abbrev pub line_of : Answer → List ℕ
@@ -53,107 +29,101 @@ abbrev pub is_refused : Answer → Bool
 is_refused (Text text) = false
 is_refused (Refused cause) = true
 
--- whether an answer is a refusal decides between the two statuses of a whole run
+-- whether an answer is a refusal decides between the two statuses of a run that answered all lines
 abbrev pub status_of : List Answer → Status
 status_of answers = if list_any is_refused answers then SomeRefused else Done
 
--- the file of this name is a kernel with these assignments
-pub record HoldsKernel (name : List ℕ) (files : Entries) (assignments : List Assignment) : Type 0 where
-  pub bytes : List ℕ
-  pub has : bytes_of name files ≡ Some bytes
-  pub few : length bytes ≤ MAX_FILE
-  pub reads : Reads bytes (Ok assignments)
+-- what stands outside of a run: the files and the input, where they tell their bytes, and the counts before and after it
+pub record Outside : Type 0 where
+  pub files : Option Entries
+  pub input : Option (List ℕ)
+  pub before : Counts
+  pub now : Counts
 
--- the file of this name is no kernel, by its first fault
-pub record HoldsFault (name : List ℕ) (files : Entries) (line : ℕ) (cause : TextCause) : Type 0 where
-  pub bytes : List ℕ
-  pub has : bytes_of name files ≡ Some bytes
-  pub few : length bytes ≤ MAX_FILE
-  pub reads : Reads bytes (Err (At line cause))
+-- The session of a job: the setup is loaded, and then these lines are answered.
+pub record Answers (o : Outside) (job : Job) (lines : List (List ℕ)) (answers : List Answer) : Type 0 where
+  pub loaded : List Kernel
+  pub after : List Kernel
+  pub setup : LoadGives o.files [] job.setup (Ok loaded)
+  pub answered : RunsTo o.files loaded lines answers after
+  pub counted : AreCounted o.before o.now answers
 
--- the file of this name is longer than a file may be
-pub record HoldsTooMuch (name : List ℕ) (files : Entries) : Type 0 where
-  pub bytes : List ℕ
-  pub has : bytes_of name files ≡ Some bytes
-  pub long : MAX_FILE < length bytes
-
--- the file of this name is a kernel without a table of leap seconds
-pub record HoldsNoTable (name : List ℕ) (files : Entries) : Type 0 where
-  pub assignments : List Assignment
-  pub kernel : HoldsKernel name files assignments
-  pub none : (table : List LeapPair) → GiveTable assignments table → ⊥
-
--- the file of this name is a kernel with this table of leap seconds
-pub record HoldsTable (name : List ℕ) (files : Entries) (table : List LeapPair) : Type 0 where
-  pub assignments : List Assignment
-  pub kernel : HoldsKernel name files assignments
-  pub gives : GiveTable assignments table
-
--- What the setup file may give: its table, or a refusal. `Fault` is what a refusal by a fault wants.
-abbrev pub SetupGives : Type 0 → List ℕ → Entries → Result (List LeapPair) LineFault → Type 0
-SetupGives Fault name files (Ok table) = HoldsTable name files table
-SetupGives Fault name files (Err NoFile) = bytes_of name files ≡ None
-SetupGives Fault name files (Err FileFault) = Fault
-SetupGives Fault name files (Err FileTooLong) = HoldsTooMuch name files
-SetupGives Fault name files (Err (KernelText line cause)) = HoldsFault name files line cause
-SetupGives Fault name files (Err NotBuilt) = HoldsNoTable name files
-SetupGives Fault name files (Err BadTime) = ⊥
-
--- the words ask for no conversion
-abbrev pub AskForNone : List (List ℕ) → Type 0
-AskForNone words = (setup time : List ℕ) → AskFor words setup time → ⊥
-
--- the lines were answered by the setup's table
-pub record Answered (Fault : Type 0) (words : List (List ℕ)) (files : Entries) (status : Status) (bytes : List ℕ) : Type 0 where
-  pub setup : List ℕ
-  pub time : List ℕ
-  pub table : List LeapPair
+-- all lines were answered
+pub record Answered (o : Outside) (words : List (List ℕ)) (status : Status) (bytes : List ℕ) : Type 0 where
+  pub job : Job
+  pub lines : List (List ℕ)
   pub answers : List Answer
-  pub asked : AskFor words setup time
-  pub given : SetupGives Fault setup files (Ok table)
-  pub answered : RunsTo table (time ∷ []) answers
+  pub asked : AskFor words job
+  pub are_lines : AreLines job.work o.input lines
+  pub short : IsShortInput job.work o.input
+  pub session : Answers o job lines answers
   pub ended : status ≡ status_of answers
   pub written : bytes ≡ flat_map line_of answers
 
+-- the words were refused
+pub record WordsRefused (words : List (List ℕ)) (bytes : List ℕ) : Type 0 where
+  pub none : AskForNone words
+  pub written : bytes ≡ codes "bad words NOT_BUILT\n"
+
 -- the setup was refused
-pub record SetupRefused (Fault : Type 0) (words : List (List ℕ)) (files : Entries) (cause : LineFault) (bytes : List ℕ) : Type 0 where
-  pub setup : List ℕ
-  pub time : List ℕ
-  pub asked : AskFor words setup time
-  pub given : SetupGives Fault setup files (Err cause)
+pub record SetupRefused (o : Outside) (words : List (List ℕ)) (cause : LineFault) (bytes : List ℕ) : Type 0 where
+  pub job : Job
+  pub asked : AskFor words job
+  pub given : LoadGives o.files [] job.setup (Err cause)
+  pub caused : RoseBy (count_by is_file_fault (Refused cause ∷ [])) o.before.faults o.now.faults
   pub written : bytes ≡ codes "bad setup " ++ (refusal_text cause ++ (10 ∷ []))
 
--- a whole output that is allowed with this status
-abbrev pub Allowed : Type 0 → List (List ℕ) → Entries → Status → List ℕ → Type 0
-Allowed Fault words files Done bytes = Answered Fault words files Done bytes
-Allowed Fault words files SomeRefused bytes = Answered Fault words files SomeRefused bytes
-Allowed Fault words files (BadWords w) bytes = AskForNone words × (bytes ≡ codes "bad words " ++ (word_text w ++ (10 ∷ [])))
-Allowed Fault words files (BadSetup cause) bytes = SetupRefused Fault words files cause bytes
-Allowed Fault words files WriteFault bytes = ⊥
-Allowed Fault words files OutOfMemory bytes = ⊥
-
--- the beginning of an allowed whole output
-pub record BeginsAllowed (Fault : Type 0) (words : List (List ℕ)) (files : Entries) (bytes : List ℕ) : Type 0 where
-  pub status : Status
+-- some first lines were answered, and a beginning of their answers was written
+pub record BeginsAnswers (o : Outside) (words : List (List ℕ)) (bytes : List ℕ) : Type 0 where
+  pub job : Job
+  pub lines : List (List ℕ)
+  pub more : List (List ℕ)
+  pub answers : List Answer
   pub rest : List ℕ
-  pub whole : Allowed Fault words files status (bytes ++ rest)
+  pub asked : AskFor words job
+  pub are_lines : AreLines job.work o.input (lines ++ more)
+  pub session : Answers o job lines answers
+  pub written : flat_map line_of answers ≡ bytes ++ rest
 
--- The bytes that the output took, by how the run ended: an allowed whole output, or the beginning of one.
-abbrev pub Outcome : Type 0 → List (List ℕ) → Entries → Status → List ℕ → Type 0
-Outcome Fault words files WriteFault bytes = BeginsAllowed Fault words files bytes
-Outcome Fault words files OutOfMemory bytes = BeginsAllowed Fault words files bytes
-Outcome Fault words files Done bytes = Allowed Fault words files Done bytes
-Outcome Fault words files SomeRefused bytes = Allowed Fault words files SomeRefused bytes
-Outcome Fault words files (BadWords w) bytes = Allowed Fault words files (BadWords w) bytes
-Outcome Fault words files (BadSetup cause) bytes = Allowed Fault words files (BadSetup cause) bytes
+-- a beginning of the line was written that says why there are no answers
+abbrev pub BeginsRefusal : Outside → List (List ℕ) → List ℕ → Type 0
+BeginsRefusal o words bytes =
+    (rest : List ℕ) × (WordsRefused words (bytes ++ rest) ⊎ ((cause : LineFault) × SetupRefused o words cause (bytes ++ rest)))
 
--- where the files and the output tell their bytes, the output took some more, which meet P
-abbrev pub WhereTold : Option Entries → Option (List ℕ) → Option (List ℕ) → (Entries → List ℕ → Type 0) → Type 0
-WhereTold None before after P = ⊤
-WhereTold (Some files) None after P = ⊤
-WhereTold (Some files) (Some xs) after P = (bytes : List ℕ) × Appends (Some xs) after bytes × P files bytes
+-- a beginning of what may be written
+abbrev pub BeginsAllowed : Outside → List (List ℕ) → List ℕ → Type 0
+BeginsAllowed o words bytes = BeginsAnswers o words bytes ⊎ BeginsRefusal o words bytes
 
--- where the files tell their bytes
-abbrev pub WhereKnown : Option Entries → (Entries → Type 0) → Type 0
-WhereKnown None P = ⊤
-WhereKnown (Some files) P = P files
+-- the input, where it tells its bytes, has more than it may have
+abbrev pub IsLongInput : Option (List ℕ) → Type 0
+IsLongInput None = ⊤
+IsLongInput (Some bytes) = MAX_INPUT < length bytes
+
+-- The bytes that the output took, by how the run ended: all that is to be written, or a beginning of it.
+abbrev pub Outcome : Outside → List (List ℕ) → Status → List ℕ → Type 0
+Outcome o words Done bytes = Answered o words Done bytes
+Outcome o words SomeRefused bytes = Answered o words SomeRefused bytes
+Outcome o words (BadWords NotBuilt) bytes = WordsRefused words bytes
+Outcome o words (BadWords fault) bytes = ⊥
+Outcome o words (BadSetup cause) bytes = SetupRefused o words cause bytes
+Outcome o words ReadFault bytes = BeginsAnswers o words bytes
+Outcome o words InputTooLong bytes = BeginsAnswers o words bytes × IsLongInput o.input
+Outcome o words WriteFault bytes = BeginsAllowed o words bytes
+Outcome o words OutOfMemory bytes = BeginsAllowed o words bytes
+
+-- where the output tells its bytes, it took some more, which meet P
+abbrev pub WhereTold : Option (List ℕ) → Option (List ℕ) → (List ℕ → Type 0) → Type 0
+WhereTold None after P = ⊤
+WhereTold (Some xs) after P = (bytes : List ℕ) × Appends (Some xs) after bytes × P bytes
+
+-- a run that ended so had no input to read
+abbrev pub ReadsNothing : List (List ℕ) → Status → Type 0
+ReadsNothing words (BadWords fault) = ⊤
+ReadsNothing words (BadSetup cause) = ⊤
+ReadsNothing words status = (job : Job) → AskFor words job → job.work ≡ Batch → ⊥
+
+-- a run that answered the lines of its input read all of them
+abbrev pub ReadsAll : List (List ℕ) → Status → Type 0
+ReadsAll words Done = (job : Job) × AskFor words job × (job.work ≡ Batch)
+ReadsAll words SomeRefused = (job : Job) × AskFor words job × (job.work ≡ Batch)
+ReadsAll words status = ⊥

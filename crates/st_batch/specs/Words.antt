@@ -1,8 +1,34 @@
 -- The words that ask for a conversion, after the options of the CHRONOS User's Guide.
-use Rattle.std.specs.Prelude.{◌≡◌, ℕ, ◌≤◌, List, [], ◌∷◌, length, codes}
+use Rattle.std.specs.Prelude.{◌≡◌, ℕ, ◌≤◌, Option, Some, None, List, [], ◌∷◌, length, codes, ⊤}
+use Rattle.st_text.specs.Lines.{lines_of}
+use Rattle.st_batch.specs.declared.command.TheConstants.{MAX_NAME}
+use Rattle.st_batch.specs.declared.input.TheConstants.{MAX_INPUT}
+use Rattle.st_batch.specs.declared.job.Job.{Job}
+use Rattle.st_batch.specs.declared.job.Work.{Work}
+use Rattle.st_batch.specs.declared.job.Work.TheVariants.{Time, Batch}
 
--- The words ask to convert one time from UTC to TAI with a setup file, whose name has 1 to 255 bytes.
-pub record AskFor (words : List (List ℕ)) (setup time : List ℕ) : Type 0 where
-  pub shape : words ≡ codes "-setup" ∷ setup ∷ codes "-from" ∷ codes "UTC" ∷ codes "-to" ∷ codes "TAI" ∷ codes "-time" ∷ time ∷ []
-  pub named : 1 ≤ length setup
-  pub short : length setup ≤ 255
+-- the last words say where the lines come from: one is given, or they are those of the input
+abbrev pub work_words : Work → List (List ℕ)
+work_words (Time text) = codes "-time" ∷ text ∷ []
+work_words Batch = codes "-batch" ∷ []
+
+-- The words ask to convert times from UTC to TAI with a setup file, whose name has 1 to 255 bytes.
+pub record AskFor (words : List (List ℕ)) (job : Job) : Type 0 where
+  pub shape : words ≡ codes "-setup" ∷ job.setup ∷ codes "-from" ∷ codes "UTC" ∷ codes "-to" ∷ codes "TAI" ∷ work_words job.work
+  pub named : 1 ≤ length job.setup
+  pub short : length job.setup ≤ MAX_NAME
+
+-- the words ask for no conversion
+abbrev pub AskForNone : List (List ℕ) → Type 0
+AskForNone words = (job : Job) → AskFor words job → ⊥
+
+-- the lines that are to be answered: the one of the words as it is, or those of the input where it tells its bytes
+abbrev pub AreLines : Work → Option (List ℕ) → List (List ℕ) → Type 0
+AreLines (Time text) input lines = lines ≡ text ∷ []
+AreLines Batch None lines = ⊤
+AreLines Batch (Some bytes) lines = lines ≡ lines_of bytes
+
+-- the input, where it is read, has no more bytes than it may have
+abbrev pub IsShortInput : Work → Option (List ℕ) → Type 0
+IsShortInput Batch (Some bytes) = length bytes ≤ MAX_INPUT
+IsShortInput work input = ⊤

@@ -1,20 +1,15 @@
 //! What a line is answered.
 
-ghost use Rattle.std.specs.Prelude.{◌≡◌, [], ◌∷◌, ◌++◌, codes, IfOk, OnOk};
-ghost use Rattle.st_batch.specs.Outcome.{IsTruncated, SpellsSeconds, MayAnswer, line_of, status_of};
+ghost use Rattle.std.specs.Prelude.{◌≡◌, ◌≢◌, [], ◌∷◌, ◌++◌, codes, IfOk, OnOk};
+ghost use Rattle.st_batch.specs.Outcome.{line_of};
+ghost use Rattle.st_batch.specs.declared.answer.Answer.TheVariants.{Text, Refused};
 ghost use Rattle.st_batch.specs.Texts as texts;
 ghost use Rattle.st_text.specs.Bytes.{decimal_digits};
 
 use crate::fault::LineFault;
-use crate::leap_seconds::{LeapPair, tai_of};
-use crate::status::Status;
-use crate::utc_time::read_utc;
 use st_decimal::{Line, OutOfMemory, put_fixed};
 use st_kernel_text::TextCause;
 use std::alloc::Global;
-
-/// The units of 10^-18 s in a microsecond.
-const MICROSECOND: i128 = 1_000_000_000_000;
 
 /// The answer of a line: a text, or why the line is refused.
 #[derive(Debug, Drop)]
@@ -23,44 +18,16 @@ pub enum Answer {
     Refused(LineFault),
 }
 
-/// The answer of a line by a table of leap seconds: TAI of the UTC time that it is, in seconds past J2000.
-pub fn answer_line(alloc: Global, table: &[LeapPair], line: &[u8]) -> Result<Answer, OutOfMemory>
-    ensures { IfOk result (MayAnswer table.now line.now) }
+/// The answer of a command that was carried out.
+pub fn said(alloc: Global, text: &[u8]) -> Result<Answer, OutOfMemory>
+    ensures { IfOk result (λ answer. answer ≡ Text text.now) }
 {
-    match read_utc(line) {
-        Some(label) => Ok(Answer::Text(seconds_text(alloc, tai_of(table, label))?)),
-        None => Ok(Answer::Refused(LineFault::BadTime)),
-    }
-}
-
-/// A time in seconds, truncated to six decimals.
-fn seconds_text(alloc: Global, time: i128) -> Result<Line, OutOfMemory>
-    ensures { IfOk result (SpellsSeconds time) }
-{
-    let mut text = Vec::new(alloc);
-    put_fixed(&mut text, microseconds(time), 6)?;
-    Ok(Line::from_vec(text))
-}
-
-/// The whole microseconds of a time, truncated downwards.
-fn microseconds(time: i128) -> i128
-    ensures { IsTruncated time result }
-{
-    time.div_euclid(MICROSECOND)
-}
-
-/// The status of a run of one line.
-pub fn status_after(answer: &Answer) -> Status
-    ensures { result ≡ status_of (answer.now ∷ []) }
-{
-    match answer {
-        Answer::Text(_) => Status::Done,
-        Answer::Refused(_) => Status::SomeRefused,
-    }
+    Ok(Answer::Text(Line::from_slice(alloc, text)?))
 }
 
 /// Appends an answer as a line of the output.
 pub fn put_answer(out: &mut Vec<u8>, answer: &Answer) -> Result<(), OutOfMemory>
+    requires { answer.now ≢ Refused LineFault.OutOfMemory }
     ensures { OnOk result (out.new.items ≡ out.old.items ++ line_of answer.now) }
 {
     match answer {
@@ -68,32 +35,45 @@ pub fn put_answer(out: &mut Vec<u8>, answer: &Answer) -> Result<(), OutOfMemory>
             out.extend_from_slice(text.as_slice())?;
             out.push(b'\n')?;
         }
-        Answer::Refused(cause) => put_refused(out, b"refused ", *cause)?,
+        Answer::Refused(fault) => put_refused(out, b"refused ", fault)?,
     }
     Ok(())
 }
 
 /// Appends a line that names a refusal behind some words.
-pub fn put_refused(out: &mut Vec<u8>, words: &[u8], cause: LineFault) -> Result<(), OutOfMemory>
-    ensures { OnOk result (out.new.items ≡ out.old.items ++ (words.now ++ (texts.refusal_text cause ++ (10 ∷ [])))) }
+pub fn put_refused(out: &mut Vec<u8>, words: &[u8], fault: &LineFault) -> Result<(), OutOfMemory>
+    requires { fault.now ≢ LineFault.OutOfMemory }
+    ensures { OnOk result (out.new.items ≡ out.old.items ++ (words.now ++ (texts.refusal_text fault.now ++ (10 ∷ [])))) }
 {
     out.extend_from_slice(words)?;
-    put_refusal(out, cause)?;
+    put_refusal(out, fault)?;
     out.push(b'\n')?;
     Ok(())
 }
 
-/// Appends the text of a refusal.
-fn put_refusal(out: &mut Vec<u8>, cause: LineFault) -> Result<(), OutOfMemory>
-    ensures { OnOk result (out.new.items ≡ out.old.items ++ texts.refusal_text cause) }
+/// Appends the text of a refusal, which isn't want of memory: its name, and where a file is no kernel the line and
+/// what breaks there, with one blank between them.
+///
+/// # Errors
+///
+/// `OutOfMemory`; a beginning of the text may then stand.
+pub fn put_refusal(out: &mut Vec<u8>, fault: &LineFault) -> Result<(), OutOfMemory>
+    requires { fault.now ≢ LineFault.OutOfMemory }
+    ensures { OnOk result (out.new.items ≡ out.old.items ++ texts.refusal_text fault.now) }
 {
-    match cause {
+    match *fault {
+        LineFault::BadCommand => out.extend_from_slice(b"BAD_COMMAND"),
+        LineFault::LineTooLong => out.extend_from_slice(b"LINE_TOO_LONG"),
         LineFault::NoFile => out.extend_from_slice(b"NO_FILE"),
         LineFault::FileFault => out.extend_from_slice(b"FILE_FAULT"),
         LineFault::FileTooLong => out.extend_from_slice(b"FILE_TOO_LONG"),
         LineFault::KernelText { line, cause } => put_kernel_text(out, line, cause),
+        LineFault::TooManyKernels => out.extend_from_slice(b"TOO_MANY_KERNELS"),
+        LineFault::TooManyValues => out.extend_from_slice(b"TOO_MANY_VALUES"),
+        LineFault::NotLoaded => out.extend_from_slice(b"NOT_LOADED"),
         LineFault::NotBuilt => out.extend_from_slice(b"NOT_BUILT"),
         LineFault::BadTime => out.extend_from_slice(b"BAD_TIME"),
+        LineFault::OutOfMemory => Ok(()),
     }
 }
 

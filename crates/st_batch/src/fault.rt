@@ -1,5 +1,8 @@
 //! Why words or a line are refused.
 
+ghost use Rattle.std.specs.Prelude.{◌≡◌};
+
+use st_decimal::OutOfMemory;
 use st_kernel_text::TextCause;
 
 /// Why the words of the program are refused.
@@ -7,11 +10,27 @@ use st_kernel_text::TextCause;
 pub enum WordFault {
     /// The words have another shape than the one that is built.
     NotBuilt,
+    /// Memory was refused. A run then ends with [`Status::OutOfMemory`](crate::Status::OutOfMemory).
+    OutOfMemory,
+}
+
+impl From<OutOfMemory> for WordFault {
+    ghost use Rattle.st_batch.specs.declared.fault.WordFault.TheVariants as fault;
+
+    ghost from_gives = { λ _ e. e ≡ fault.OutOfMemory };
+
+    fn from(_error: OutOfMemory) -> WordFault {
+        WordFault::OutOfMemory
+    }
 }
 
 /// Why a setup or a line is refused.
 #[derive(Clone, Copy, Debug, PartialEq, Eq)]
 pub enum LineFault {
+    /// The line begins with `$` and is no command.
+    BadCommand,
+    /// The line has more than 1,000 bytes.
+    LineTooLong,
     /// There is no file of that name.
     NoFile,
     /// The file could not be opened, or its read failed.
@@ -20,8 +39,27 @@ pub enum LineFault {
     FileTooLong,
     /// The file is no text kernel: the line, from 1, and what breaks there.
     KernelText { line: u64, cause: TextCause },
-    /// The kernel has no table of leap seconds.
+    /// 1,000 kernels are loaded.
+    TooManyKernels,
+    /// The values of the loaded kernels and of this one are more than 2,000,000.
+    TooManyValues,
+    /// No kernel of that name is loaded.
+    NotLoaded,
+    /// The loaded kernels give no table of leap seconds.
     NotBuilt,
     /// The line is no UTC time.
     BadTime,
+    /// Memory was refused. No line is refused so: a run then ends with
+    /// [`Status::OutOfMemory`](crate::Status::OutOfMemory).
+    OutOfMemory,
+}
+
+impl From<OutOfMemory> for LineFault {
+    ghost use Rattle.st_batch.specs.declared.fault.LineFault.TheVariants as fault;
+
+    ghost from_gives = { λ _ e. e ≡ fault.OutOfMemory };
+
+    fn from(_error: OutOfMemory) -> LineFault {
+        LineFault::OutOfMemory
+    }
 }

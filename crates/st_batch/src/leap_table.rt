@@ -1,23 +1,27 @@
-//! The table of leap seconds that a kernel's assignments give.
+//! The table of leap seconds that the loaded kernels give.
 
 ghost use Rattle.std.specs.Prelude.{◌≡◌, ◌≤◌, [], ◌∷◌, ◌++◌, length, Some, MatchOption, IfOk, IfSome, OnOk, IsErrOf, List};
 ghost use Rattle.st_batch.specs.LeapSeconds.{GiveTable};
 ghost use Rattle.st_batch.specs.LeapTable.{IsPair, IsTableOf, PairUp};
+ghost use Rattle.st_batch.specs.Session.{HaveNoTable};
 ghost use Rattle.st_batch.specs.declared.leap_seconds.LeapPair.{LeapPair};
 
 use crate::leap_seconds::{LeapPair, is_table};
 use crate::variable::numbers_of;
 use st_decimal::{Dec, OutOfMemory};
-use st_kernel_text::Assignment;
+use st_pool::Pool;
 use std::alloc::Global;
 
 /// The variable that holds the table.
 const NAME: &[u8] = b"DELTET/DELTA_AT";
 
+/// The most values of a table: two for each of 1,000 pairs.
+const MAX_VALUES: usize = 2000;
+
 /// The greatest count.
 const MAX_COUNT: i64 = 1000;
 
-/// Why assignments gave no table.
+/// Why there is no table.
 #[derive(Clone, Copy, Debug, PartialEq, Eq)]
 pub enum TableFault {
     /// The values of the variable are no table of leap seconds.
@@ -35,13 +39,15 @@ impl From<OutOfMemory> for TableFault {
     }
 }
 
-/// The table of leap seconds by the values of `DELTET/DELTA_AT`.
-pub fn read_table(alloc: Global, assignments: &[Assignment]) -> Result<Vec<LeapPair>, TableFault>
-    ensures ok { IfOk result (λ table. GiveTable assignments.now table.items) }
-    ensures not_table { IsErrOf result TableFault.NotTable
-        → (table : List LeapPair) → GiveTable assignments.now table → ⊥ }
+/// The table of leap seconds that the loaded kernels give by the values of `DELTET/DELTA_AT`.
+pub fn read_table(alloc: Global, pool: &Pool) -> Result<Vec<LeapPair>, TableFault>
+    ensures ok { IfOk result (λ table. GiveTable pool.now table.items) }
+    ensures not_table { IsErrOf result TableFault.NotTable → HaveNoTable pool.now }
 {
-    match numbers_of(alloc, NAME, assignments) {
+    if pool.count(NAME) > MAX_VALUES {
+        return Err(TableFault::NotTable);
+    }
+    match numbers_of(alloc, pool, NAME) {
         Ok(numbers) if numbers.all => table_of(alloc, numbers.list.as_slice()),
         Ok(_) => Err(TableFault::NotTable),
         Err(_) => Err(TableFault::OutOfMemory),

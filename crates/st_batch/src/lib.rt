@@ -1,17 +1,23 @@
 //! The session of `chronos`: from its words to its output.
 //!
 //! [`run`] does all that the program does, and its contract is the project's theorem. Below it stand the parts
-//! that it is made of: the words, the setup kernel with its table of leap seconds, UTC times, and the answers.
+//! that it is made of: the words, the [`Session`] with the kernels that are loaded, its commands, UTC times with the
+//! table of leap seconds, the lines of the input, and the answers.
 #![tactic(auto)]
 
 mod answer;
+mod answering;
+mod command;
+mod convert;
 mod fault;
+mod input;
+mod job;
 pub mod laws;
 mod leap_seconds;
 mod leap_table;
 mod load;
 mod scan;
-mod setup;
+mod session;
 mod status;
 mod top;
 mod utc_time;
@@ -19,6 +25,9 @@ mod variable;
 mod words;
 mod write;
 
+pub use crate::answer::{Answer, put_refusal};
 pub use crate::fault::{LineFault, WordFault};
+pub use crate::job::{Job, Work};
+pub use crate::session::Session;
 pub use crate::status::Status;
 pub use crate::top::run;

@@ -1,53 +1,87 @@
-//! Reading a whole file by its name.
+//! Loading a file by its name.
 
-ghost use Rattle.std.specs.Prelude.{◌≡◌, ◌≤◌, true, false, length, IfOk, IsErrOf};
+ghost use Rattle.std.specs.Prelude.{◌≡◌, ◌≤◌, true, false, length, Ok, IfOk, IfErr, OnOk, OnErr, IsErrOf};
 ghost use Rattle.st_outside.specs.Causes.{Rose, RoseBeyond};
 ghost use Rattle.st_outside.specs.Entries.{IsAbsent};
-ghost use Rattle.st_batch.specs.Load.{HasFile, HasLongFile, IsRest, IsLongRest};
+ghost use Rattle.st_batch.specs.Causes.{IsSetupCaused};
+ghost use Rattle.st_batch.specs.Load.{HasFile, HasLongFile, IsRest, IsLongRest, LoadGives, LoadRefuses};
 
-use st_outside::{Files, OpenFault, OutOfMemory};
+use crate::fault::LineFault;
+use st_kernel_text::{TextFault, read_kernel};
+use st_outside::{Files, OpenFault};
+use st_pool::{LoadFault, Pool};
 use std::alloc::Global;
 
 /// The most bytes that a file may have.
 pub const MAX_FILE: usize = 16_777_216;
 
-/// Why a file was not read.
-#[derive(Clone, Copy, Debug, PartialEq, Eq)]
-pub enum LoadFault {
-    NoFile,
-    FileFault,
-    FileTooLong,
-    OutOfMemory,
+/// Loads the file of this name behind all kernels of the pool. No file is open afterwards.
+///
+/// # Errors
+///
+/// Why it isn't loaded; the pool is then as before.
+pub fn load_file<F: Files>(
+    alloc: Global,
+    pool: &mut Pool,
+    name: &[u8],
+    files: &mut F,
+) -> Result<(), LineFault>
+    ensures ok { OnOk result (LoadGives (F.map files.old) pool.old name.now (Ok pool.new)) }
+    ensures err { IfErr result (LoadRefuses (F.map files.old) pool.old name.now) }
+    ensures refused { OnErr result (pool.new ≡ pool.old) }
+    ensures cause { IfErr result (λ fault. IsSetupCaused fault (Rose (F.misses files.old) (F.misses files.new))
+        (Rose (F.faults files.old) (F.faults files.new)) (RoseBeyond MAX_FILE (F.taken files.old) (F.taken files.new))) }
+    ensures closed { F.opened files.new ≡ false }
+    ensures map { F.map files.new ≡ F.map files.old }
+    ensures misses_later { F.misses files.old ≤ F.misses files.new }
+    ensures faults_later { F.faults files.old ≤ F.faults files.new }
+{
+    let bytes = read_file(alloc, name, files)?;
+    let assignments = match read_kernel(alloc, bytes.as_slice()) {
+        Ok(assignments) => assignments,
+        Err(fault) => return Err(refused_text(fault)),
+    };
+    match pool.load(name, assignments) {
+        Ok(()) => Ok(()),
+        Err(fault) => Err(refused_load(fault)),
+    }
 }
 
-impl From<OutOfMemory> for LoadFault {
-    ghost use Rattle.st_batch.specs.declared.load.LoadFault.TheVariants as fault;
+/// The refusal of a file that is no kernel.
+fn refused_text(fault: TextFault) -> LineFault {
+    match fault {
+        TextFault::At { line, cause } => LineFault::KernelText { line, cause },
+        TextFault::OutOfMemory => LineFault::OutOfMemory,
+    }
+}
 
-    ghost from_gives = { λ _ e. e ≡ fault.OutOfMemory };
-
-    fn from(_error: OutOfMemory) -> LoadFault {
-        LoadFault::OutOfMemory
+/// The refusal of a kernel that the pool doesn't take.
+fn refused_load(fault: LoadFault) -> LineFault {
+    match fault {
+        LoadFault::TooManyKernels => LineFault::TooManyKernels,
+        LoadFault::TooManyValues => LineFault::TooManyValues,
+        LoadFault::OutOfMemory => LineFault::OutOfMemory,
     }
 }
 
 /// The bytes of the file of this name, which has at most `MAX_FILE`. No file is open afterwards.
-pub fn read_file<F: Files>(alloc: Global, name: &[u8], files: &mut F) -> Result<Vec<u8>, LoadFault>
+pub fn read_file<F: Files>(alloc: Global, name: &[u8], files: &mut F) -> Result<Vec<u8>, LineFault>
     ensures ok { IfOk result (λ bytes. HasFile (F.map files.old) name.now bytes.items) }
     ensures few { IfOk result (λ bytes. length bytes.items ≤ MAX_FILE) }
-    ensures absent { IsErrOf result LoadFault.NoFile → IsAbsent (F.map files.old) name.now }
-    ensures long { IsErrOf result LoadFault.FileTooLong → HasLongFile (F.map files.old) name.now }
+    ensures absent { IsErrOf result LineFault.NoFile → IsAbsent (F.map files.old) name.now }
+    ensures long { IsErrOf result LineFault.FileTooLong → HasLongFile (F.map files.old) name.now }
     ensures closed { F.opened files.new ≡ false }
     ensures map { F.map files.new ≡ F.map files.old }
-    ensures no_file { IsErrOf result LoadFault.NoFile → Rose (F.misses files.old) (F.misses files.new) }
-    ensures file_fault { IsErrOf result LoadFault.FileFault → Rose (F.faults files.old) (F.faults files.new) }
-    ensures too_long { IsErrOf result LoadFault.FileTooLong
+    ensures no_file { IsErrOf result LineFault.NoFile → Rose (F.misses files.old) (F.misses files.new) }
+    ensures file_fault { IsErrOf result LineFault.FileFault → Rose (F.faults files.old) (F.faults files.new) }
+    ensures too_long { IsErrOf result LineFault.FileTooLong
         → RoseBeyond MAX_FILE (F.taken files.old) (F.taken files.new) }
 {
     if let Err(fault) = files.open(name) {
         return Err(match fault {
-            OpenFault::Missing => LoadFault::NoFile,
-            OpenFault::Failed => LoadFault::FileFault,
-            OpenFault::OutOfMemory => LoadFault::OutOfMemory,
+            OpenFault::Missing => LineFault::NoFile,
+            OpenFault::Failed => LineFault::FileFault,
+            OpenFault::OutOfMemory => LineFault::OutOfMemory,
         });
     }
     let bytes = read_open(alloc, files);
@@ -56,14 +90,14 @@ pub fn read_file<F: Files>(alloc: Global, name: &[u8], files: &mut F) -> Result<
 }
 
 /// The rest of the open file, which has at most `MAX_FILE` bytes.
-fn read_open<F: Files>(alloc: Global, files: &mut F) -> Result<Vec<u8>, LoadFault>
+fn read_open<F: Files>(alloc: Global, files: &mut F) -> Result<Vec<u8>, LineFault>
     requires { F.opened files.old ≡ true }
     ensures ok { IfOk result (λ bytes. IsRest (F.left files.old) bytes.items) }
     ensures few { IfOk result (λ bytes. length bytes.items ≤ MAX_FILE) }
-    ensures long { IsErrOf result LoadFault.FileTooLong → IsLongRest (F.left files.old) MAX_FILE }
-    ensures found { IsErrOf result LoadFault.NoFile → ⊥ }
-    ensures file_fault { IsErrOf result LoadFault.FileFault → Rose (F.faults files.old) (F.faults files.new) }
-    ensures too_long { IsErrOf result LoadFault.FileTooLong
+    ensures long { IsErrOf result LineFault.FileTooLong → IsLongRest (F.left files.old) MAX_FILE }
+    ensures found { IsErrOf result LineFault.NoFile → ⊥ }
+    ensures file_fault { IsErrOf result LineFault.FileFault → Rose (F.faults files.old) (F.faults files.new) }
+    ensures too_long { IsErrOf result LineFault.FileTooLong
         → RoseBeyond MAX_FILE (F.taken files.old) (F.taken files.new) }
     ensures map { F.map files.new ≡ F.map files.old }
     ensures misses { F.misses files.new ≡ F.misses files.old }
@@ -75,8 +109,8 @@ fn read_open<F: Files>(alloc: Global, files: &mut F) -> Result<Vec<u8>, LoadFaul
         match files.read(&mut buf) {
             Ok(0) => return Ok(bytes),
             Ok(count) => bytes.extend_from_slice(&buf[..count])?,
-            Err(_) => return Err(LoadFault::FileFault),
+            Err(_) => return Err(LineFault::FileFault),
         }
     }
-    Err(LoadFault::FileTooLong)
+    Err(LineFault::FileTooLong)
 }

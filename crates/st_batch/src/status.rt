@@ -16,10 +16,14 @@ pub enum Status {
     BadWords(WordFault),
     /// The setup was refused.
     BadSetup(LineFault),
+    /// The input's count of faults rose.
+    ReadFault,
     /// The output's count of faults rose.
     WriteFault,
     /// Memory was refused.
     OutOfMemory,
+    /// The input has more than 67,108,864 bytes.
+    InputTooLong,
 }
 
 impl Status {
@@ -32,8 +36,10 @@ impl Status {
             Status::SomeRefused => 1,
             Status::BadWords(_) => 2,
             Status::BadSetup(_) => 3,
+            Status::ReadFault => 4,
             Status::WriteFault => 5,
             Status::OutOfMemory => 6,
+            Status::InputTooLong => 7,
         }
     }
 }

@@ -1,51 +1,80 @@
 //! The words of the program.
 
-ghost use Rattle.std.specs.Prelude.{◌≡◌, ◌&&◌, nat_le, MatchOption, map, string_bytes, bytes_eq, codes, length, Some, None};
-ghost use Rattle.st_batch.specs.WordsMachine.{job_of, are_options, are_systems, is_name};
+ghost use Rattle.std.specs.Prelude.{◌≡◌, ◌&&◌, nat_le, MatchOption, IfOk, IsErrOf, map, string_bytes, option_map, bytes_eq, codes, length, Some, None};
+ghost use Rattle.st_batch.specs.Words.{AskFor, AskForNone};
+ghost use Rattle.st_batch.specs.WordsMachine as machine;
 
-/// One conversion: the setup file's name and the time.
-#[derive(Clone, Copy)]
-pub struct Job<'a> {
-    pub setup: &'a [u8],
-    pub time: &'a [u8],
+use crate::command::MAX_NAME;
+use crate::fault::WordFault;
+use crate::job::{Job, Work};
+use st_decimal::{KText, OutOfMemory};
+use std::alloc::Global;
+
+/// What the words ask for, or that they have another shape.
+pub fn read_words(alloc: Global, words: &[String]) -> Result<Job, WordFault>
+    ensures ok { IfOk result (AskFor (map string_bytes words.now)) }
+    ensures not_built { IsErrOf result WordFault.NotBuilt → AskForNone (map string_bytes words.now) }
+{
+    match asked(words) {
+        Some((setup, time)) => Ok(make_job(alloc, setup, time)?),
+        None => Err(WordFault::NotBuilt),
+    }
 }
 
-/// What the words ask for, or nothing where they have another shape.
-pub fn read_words(words: &[String]) -> Option<Job<'_>>
-    ensures { MatchOption result (job_of (map string_bytes words.now) ≡ None)
-        (λ job. job_of (map string_bytes words.now) ≡ Some (job.setup.now, job.time.now)) }
-{
+/// The job of a setup file's name and of a time, where one is given.
+fn make_job(alloc: Global, setup: &[u8], time: Option<&[u8]>) -> Result<Job, OutOfMemory> {
+    let setup = KText::from_slice(alloc, setup)?;
+    let work = match time {
+        Some(text) => Work::Time(KText::from_slice(alloc, text)?),
+        None => Work::Batch,
+    };
+    Ok(Job { setup, work })
+}
+
+/// The setup file's name and the time, where one is given.
+fn asked(words: &[String]) -> Option<(&[u8], Option<&[u8]>)> {
     match words {
-        [setup, name, from, source, to, target, time, text]
-            if are_options(setup, from, to, time) && are_systems(source, target) && is_name(name) =>
+        [setup, name, from, source, to, target, batch]
+            if are_first(setup, name, from, source, to, target) && batch.as_str() == "-batch" =>
             {
-                Some(Job {
-                    setup: name.as_bytes(),
-                    time: text.as_bytes(),
-                })
+                Some((name.as_bytes(), None))
+            }
+        [setup, name, from, source, to, target, time, text]
+            if are_first(setup, name, from, source, to, target) && time.as_str() == "-time" =>
+            {
+                Some((name.as_bytes(), Some(text.as_bytes())))
             }
         _ => None,
     }
 }
 
-fn are_options(setup: &String, from: &String, to: &String, time: &String) -> bool
-    ensures { result ≡ are_options (string_bytes setup.now) (string_bytes from.now) (string_bytes to.now) (string_bytes time.now) }
+/// Whether the first six words ask for a conversion from UTC to TAI with a setup file.
+fn are_first(
+    setup: &String,
+    name: &String,
+    from: &String,
+    source: &String,
+    to: &String,
+    target: &String,
+) -> bool {
+    are_options(setup, from, to) && are_systems(source, target) && is_name(name)
+}
+
+fn are_options(setup: &String, from: &String, to: &String) -> bool
+    ensures { result ≡ machine.are_options (string_bytes setup.now) (string_bytes from.now) (string_bytes to.now) }
 {
-    setup.as_str() == "-setup"
-        && from.as_str() == "-from"
-        && to.as_str() == "-to"
-        && time.as_str() == "-time"
+    setup.as_str() == "-setup" && from.as_str() == "-from" && to.as_str() == "-to"
 }
 
 fn are_systems(source: &String, target: &String) -> bool
-    ensures { result ≡ are_systems (string_bytes source.now) (string_bytes target.now) }
+    ensures { result ≡ machine.are_systems (string_bytes source.now) (string_bytes target.now) }
 {
     source.as_str() == "UTC" && target.as_str() == "TAI"
 }
 
 /// Whether a file's name has 1 to 255 bytes.
 fn is_name(name: &String) -> bool
-    ensures { result ≡ is_name (string_bytes name.now) }
+    ensures { result ≡ machine.is_name (string_bytes name.now) }
 {
-    1 <= name.len() && name.len() <= 255
+    1 <= name.len() && name.len() <= MAX_NAME
 }

@@ -11,6 +11,7 @@ use st_outside::{Sink, SinkFault};
 pub fn write_all<O: Sink>(out: &mut O, bytes: &[u8]) -> Result<(), SinkFault>
     ensures ok { OnOk result (Appends (O.taken out.old) (O.taken out.new) bytes.now) }
     ensures err { OnErr result (TakesPrefix (O.taken out.old) (O.taken out.new) bytes.now) }
+    ensures later { O.faults out.old ≤ O.faults out.new }
     ensures cause { IsErrOf result SinkFault.Failed → Rose (O.faults out.old) (O.faults out.new) }
 {
     let mut at = 0;

@@ -1,5 +1,0 @@
-use Rattle.st_batch.proofs.RunLaws.{may-answer}
-use Rattle.st_batch.proofs.laws.every_line_has_an_answer.Goals as goal
-
-pub returns : goal.returns
-returns c table line = may-answer table line

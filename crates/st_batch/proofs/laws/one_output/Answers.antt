@@ -1,5 +1,0 @@
-use Rattle.st_batch.proofs.OneOutput.{one-output}
-use Rattle.st_batch.proofs.laws.one_output.Goals as goal
-
-pub returns : goal.returns
-returns c words files first second one other h k = one-output words files first second one other h k

@@ -1,0 +1,40 @@
+-- The commands of a session, which are this project's own: `$load N`, `$unload N` and `$clear`.
+use Rattle.std.specs.Prelude.{◌≡◌, ◌≢◌, ℕ, ◌≤◌, Bool, false, ◌==◌, IsTrue, IsUtf8, List, [], ◌∷◌, ◌++◌, length, codes}
+use Rattle.st_text.specs.Bytes.{are_blanks}
+use Rattle.st_text.specs.Lines.{skip_blanks}
+use Rattle.st_batch.specs.declared.command.TheConstants.{MAX_NAME}
+
+-- a name by which a file may be loaded: UTF-8 of 1 to 255 bytes
+pub record IsFileName (name : List ℕ) : Type 0 where
+  pub some : 1 ≤ length name
+  pub short : length name ≤ MAX_NAME
+  pub utf8 : IsUtf8 name
+
+-- the text is a word, some blanks, and a name, which begins behind the last of them
+pub record Names (word text name : List ℕ) : Type 0 where
+  pub blanks : List ℕ
+  pub spelled : text ≡ word ++ (blanks ++ name)
+  pub some : 1 ≤ length blanks
+  pub blank : IsTrue (are_blanks blanks)
+  pub behind : skip_blanks name ≡ name
+  pub is_name : IsFileName name
+
+abbrev pub IsLoad : List ℕ → List ℕ → Type 0
+IsLoad text name = Names (codes "$load") text name
+
+abbrev pub IsUnload : List ℕ → List ℕ → Type 0
+IsUnload text name = Names (codes "$unload") text name
+
+abbrev pub IsClear : List ℕ → Type 0
+IsClear text = text ≡ codes "$clear"
+
+-- whether a text begins with `$` (36), as commands do and times don't
+abbrev pub begins_command : List ℕ → Bool
+begins_command [] = false
+begins_command (b ∷ bs) = b == 36
+
+-- the text is none of the three commands
+pub record IsNoCommand (text : List ℕ) : Type 0 where
+  pub load : (name : List ℕ) → IsLoad text name → ⊥
+  pub unload : (name : List ℕ) → IsUnload text name → ⊥
+  pub clear : text ≢ codes "$clear"

@@ -1,0 +1,51 @@
+//! Converting a time from UTC to TAI.
+
+ghost use Rattle.std.specs.Prelude.{◌≡◌, false, IfOk};
+ghost use Rattle.st_batch.specs.Commands.{begins_command};
+ghost use Rattle.st_batch.specs.Line.{TimeGives};
+ghost use Rattle.st_batch.specs.Session.{IsTruncated, SpellsSeconds};
+
+use crate::answer::Answer;
+use crate::fault::LineFault;
+use crate::leap_seconds::tai_of;
+use crate::leap_table::{TableFault, read_table};
+use crate::utc_time::read_utc;
+use st_decimal::{Line, OutOfMemory, put_fixed};
+use st_pool::Pool;
+use std::alloc::{AllocError, Global};
+
+/// The units of 10^-18 s in a microsecond.
+const MICROSECOND: i128 = 1_000_000_000_000;
+
+/// The answer of a text that is no command: TAI of the UTC time that it is, in seconds past J2000, by the table of
+/// leap seconds that the loaded kernels give.
+pub fn answer_time(alloc: Global, pool: &Pool, text: &[u8]) -> Result<Answer, OutOfMemory>
+    requires { begins_command text.now ≡ false }
+    ensures { IfOk result (TimeGives pool.now text.now) }
+{
+    let table = match read_table(alloc, pool) {
+        Ok(table) => table,
+        Err(TableFault::NotTable) => return Ok(Answer::Refused(LineFault::NotBuilt)),
+        Err(TableFault::OutOfMemory) => return Err(AllocError),
+    };
+    match read_utc(text) {
+        Some(label) => Ok(Answer::Text(seconds_text(alloc, tai_of(table.as_slice(), label))?)),
+        None => Ok(Answer::Refused(LineFault::BadTime)),
+    }
+}
+
+/// A time in seconds, truncated to six decimals.
+fn seconds_text(alloc: Global, time: i128) -> Result<Line, OutOfMemory>
+    ensures { IfOk result (SpellsSeconds time) }
+{
+    let mut text = Vec::new(alloc);
+    put_fixed(&mut text, microseconds(time), 6)?;
+    Ok(Line::from_vec(text))
+}
+
+/// The whole microseconds of a time, truncated downwards.
+fn microseconds(time: i128) -> i128
+    ensures { IsTruncated time result }
+{
+    time.div_euclid(MICROSECOND)
+}

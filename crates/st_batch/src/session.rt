@@ -1,0 +1,182 @@
+//! The session: the loaded kernels, and how they answer lines.
+
+ghost use Rattle.std.specs.Prelude.{◌≡◌, ◌≤◌, [], true, false, length, Ok, Err, IfOk, IfErr, OnErr};
+ghost use Rattle.st_outside.specs.Causes.{Rose, RoseBeyond};
+ghost use Rattle.st_text.specs.Lines.{trimmed};
+ghost use Rattle.st_batch.specs.Causes.{AreCounted, IsAnswerCaused, IsSetupCaused};
+ghost use Rattle.st_batch.specs.Commands.{begins_command};
+ghost use Rattle.st_batch.specs.Load.{LoadGives, LoadRefuses};
+ghost use Rattle.st_batch.specs.Outcome.{is_refused};
+ghost use Rattle.st_batch.specs.Session.{MayAnswer};
+
+use crate::answer::{Answer, said};
+use crate::command::name_behind;
+use crate::convert::answer_time;
+use crate::fault::LineFault;
+use crate::job::Job;
+use crate::load::{MAX_FILE, load_file};
+use st_decimal::OutOfMemory;
+use st_outside::Files;
+use st_pool::{NotLoaded, Pool};
+use st_text::trim;
+use std::alloc::{AllocError, Global};
+use std::marker::Model;
+
+/// The most bytes that a line may have.
+pub const MAX_LINE: usize = 1000;
+
+/// The kernels that are loaded between two lines. Contracts see the loaded list.
+#[derive(Debug, Drop)]
+pub struct Session {
+    alloc: Global,
+    pool: Pool,
+}
+
+impl Model for Session {
+    ghost use Rattle.std.specs.Prelude.{List};
+    ghost use Rattle.st_pool.specs.declared.kernel.Kernel.{Kernel};
+
+    ghost Value = { List Kernel };
+
+    ghost view = { λ s. s.pool };
+}
+
+impl Session {
+    /// The session of a job: its setup file is loaded under its own name. The session keeps the allocator.
+    ///
+    /// # Errors
+    ///
+    /// Why the setup isn't loaded; the job is then dropped.
+    pub fn open<F: Files>(alloc: Global, job: Job, files: &mut F) -> Result<Session, LineFault>
+        ensures ok { IfOk result (λ session. LoadGives (F.map files.old) [] job.setup (Ok session)) }
+        ensures err { IfErr result (LoadRefuses (F.map files.old) [] job.setup) }
+        ensures cause { IfErr result (λ fault. IsSetupCaused fault (Rose (F.misses files.old) (F.misses files.new))
+            (Rose (F.faults files.old) (F.faults files.new)) (RoseBeyond MAX_FILE (F.taken files.old) (F.taken files.new))) }
+        ensures closed { F.opened files.new ≡ false }
+        ensures map { F.map files.new ≡ F.map files.old }
+        ensures misses_later { F.misses files.old ≤ F.misses files.new }
+        ensures faults_later { F.faults files.old ≤ F.faults files.new }
+    {
+        Session::begin(alloc, job.setup.as_slice(), files)
+    }
+
+    /// The session whose setup file has this name.
+    pub(crate) fn begin<F: Files>(
+        alloc: Global,
+        setup: &[u8],
+        files: &mut F,
+    ) -> Result<Session, LineFault>
+        ensures ok { IfOk result (λ session. LoadGives (F.map files.old) [] setup.now (Ok session)) }
+        ensures err { IfErr result (LoadRefuses (F.map files.old) [] setup.now) }
+        ensures cause { IfErr result (λ fault. IsSetupCaused fault (Rose (F.misses files.old) (F.misses files.new))
+            (Rose (F.faults files.old) (F.faults files.new)) (RoseBeyond MAX_FILE (F.taken files.old) (F.taken files.new))) }
+        ensures closed { F.opened files.new ≡ false }
+        ensures map { F.map files.new ≡ F.map files.old }
+        ensures misses_later { F.misses files.old ≤ F.misses files.new }
+        ensures faults_later { F.faults files.old ≤ F.faults files.new }
+    {
+        let mut pool = Pool::new(alloc);
+        load_file(alloc, &mut pool, setup, files)?;
+        Ok(Session { alloc, pool })
+    }
+
+    /// The loaded kernels.
+    pub fn pool(&self) -> &Pool
+        ensures { result.now ≡ self.now }
+    {
+        &self.pool
+    }
+
+    /// The answer of a line: of a command that begins with `$`, or of a time.
+    ///
+    /// A refusal, and want of memory, leave the loaded kernels as they were.
+    pub fn answer_line<F: Files>(
+        &mut self,
+        line: &[u8],
+        files: &mut F,
+    ) -> Result<Answer, OutOfMemory>
+        ensures answered { IfOk result (λ answer. MayAnswer (F.map files.old) self.old line.now answer self.new) }
+        ensures refused { IfOk result (λ answer. is_refused answer ≡ true → self.new ≡ self.old) }
+        ensures err { OnErr result (self.new ≡ self.old) }
+        ensures cause { IfOk result (λ answer. IsAnswerCaused answer (Rose (F.misses files.old) (F.misses files.new))
+            (Rose (F.faults files.old) (F.faults files.new)) (RoseBeyond MAX_FILE (F.taken files.old) (F.taken files.new))) }
+        ensures closed { F.opened files.old ≡ false → F.opened files.new ≡ false }
+        ensures map { F.map files.new ≡ F.map files.old }
+        ensures misses_later { F.misses files.old ≤ F.misses files.new }
+        ensures faults_later { F.faults files.old ≤ F.faults files.new }
+    {
+        match trim(line) {
+            [b'$', ..] => self.command_line(line, files),
+            text => self.time_line(line, text),
+        }
+    }
+
+    /// The answer of a line that begins with `$`: `$load N`, `$unload N` or `$clear`.
+    ///
+    /// A refusal, and want of memory, leave the loaded kernels as they were.
+    pub fn command_line<F: Files>(
+        &mut self,
+        line: &[u8],
+        files: &mut F,
+    ) -> Result<Answer, OutOfMemory>
+        requires { begins_command (trimmed line.now) ≡ true }
+        ensures answered { IfOk result (λ answer. MayAnswer (F.map files.old) self.old line.now answer self.new) }
+        ensures refused { IfOk result (λ answer. is_refused answer ≡ true → self.new ≡ self.old) }
+        ensures err { OnErr result (self.new ≡ self.old) }
+        ensures cause { IfOk result (λ answer. IsAnswerCaused answer (Rose (F.misses files.old) (F.misses files.new))
+            (Rose (F.faults files.old) (F.faults files.new)) (RoseBeyond MAX_FILE (F.taken files.old) (F.taken files.new))) }
+        ensures closed { F.opened files.old ≡ false → F.opened files.new ≡ false }
+        ensures map { F.map files.new ≡ F.map files.old }
+        ensures misses_later { F.misses files.old ≤ F.misses files.new }
+        ensures faults_later { F.faults files.old ≤ F.faults files.new }
+    {
+        if line.len() > MAX_LINE {
+            return Ok(Answer::Refused(LineFault::LineTooLong));
+        }
+        let text = trim(line);
+        if let Some(name) = name_behind(b"$load", text) {
+            return self.load(name, files);
+        }
+        if let Some(name) = name_behind(b"$unload", text) {
+            return self.unload(name);
+        }
+        if text == b"$clear".as_slice() {
+            return self.clear();
+        }
+        Ok(Answer::Refused(LineFault::BadCommand))
+    }
+
+    /// The answer of a line that is this text between blanks, and no command.
+    fn time_line(&self, line: &[u8], text: &[u8]) -> Result<Answer, OutOfMemory> {
+        if line.len() > MAX_LINE {
+            return Ok(Answer::Refused(LineFault::LineTooLong));
+        }
+        answer_time(self.alloc, &self.pool, text)
+    }
+
+    /// Loads the file of this name.
+    fn load<F: Files>(&mut self, name: &[u8], files: &mut F) -> Result<Answer, OutOfMemory> {
+        let answer = said(self.alloc, b"loaded")?;
+        match load_file(self.alloc, &mut self.pool, name, files) {
+            Ok(()) => Ok(answer),
+            Err(LineFault::OutOfMemory) => Err(AllocError),
+            Err(fault) => Ok(Answer::Refused(fault)),
+        }
+    }
+
+    /// Unloads the last loaded kernel of this name.
+    fn unload(&mut self, name: &[u8]) -> Result<Answer, OutOfMemory> {
+        let answer = said(self.alloc, b"unloaded")?;
+        match self.pool.unload(name) {
+            Ok(()) => Ok(answer),
+            Err(NotLoaded) => Ok(Answer::Refused(LineFault::NotLoaded)),
+        }
+    }
+
+    /// Unloads all kernels.
+    fn clear(&mut self) -> Result<Answer, OutOfMemory> {
+        let answer = said(self.alloc, b"cleared")?;
+        self.pool.clear();
+        Ok(answer)
+    }
+}
