@@ -1,7 +1,9 @@
 pub mod Decimals
 pub mod KernelLaws
 pub mod Numbers
+pub mod OneLoad
 pub mod PairsLaws
+pub mod RunLaws
 pub mod ScanLaws
 pub mod TableLaws
 pub mod Tests

@@ -1,9 +1,11 @@
 -- How a whole run ends, by the words and by what the sink took.
-use Rattle.std.specs.Prelude.{◌≡◌, ℕ, Option, List, ◌⊎◌, ⊤}
+use Rattle.std.specs.Prelude.{◌≡◌, ◌≢◌, ℕ, Option, List, ◌⊎◌, ⊤}
 use Rattle.std.specs.Io.KnownBytes.{Appends}
 use Rattle.st_batch.specs.declared.fault.WordFault.TheVariants.{NotBuilt}
 use Rattle.st_batch.specs.declared.status.Status.{Status}
-use Rattle.st_batch.specs.declared.status.Status.TheVariants.{BadWords, WriteFault, OutOfMemory}
+use Rattle.st_batch.specs.declared.job.Job.{Job}
+use Rattle.st_batch.specs.declared.job.Work.TheVariants.{Batch}
+use Rattle.st_batch.specs.declared.status.Status.TheVariants.{BadWords, BadSetup, WriteFault, OutOfMemory}
 use Rattle.st_batch.specs.Taken.{TakesPrefix}
 
 -- The words are refused exactly where a fact holds of them. A run that was cut off says nothing of it.
@@ -24,3 +26,14 @@ IsCut status = ⊥
 abbrev pub Delivers : List ℕ → Status → Option (List ℕ) → Option (List ℕ) → Status → Type 0
 Delivers output wanted before after status =
     (Appends before after output × (status ≡ wanted)) ⊎ (TakesPrefix before after output × IsCut status)
+
+-- the words were not refused
+abbrev pub IsOfJob : Status → Type 0
+IsOfJob (BadWords fault) = ⊥
+IsOfJob status = ⊤
+
+-- a run of this job, which ended so, had no input to read
+abbrev pub HasNoInput : Job → Status → Type 0
+HasNoInput job (BadWords fault) = ⊤
+HasNoInput job (BadSetup cause) = ⊤
+HasNoInput job status = job.work ≢ Batch

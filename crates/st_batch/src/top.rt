@@ -1,13 +1,16 @@
 //! The whole run: from the words to the output.
 
-ghost use Rattle.std.specs.Prelude.{◌≡◌, false, map, string_bytes, codes, [], ◌∷◌, ◌++◌};
+ghost use Rattle.std.specs.Prelude.{◌≡◌, ◌≢◌, ℕ, List, false, map, string_bytes, codes, [], ◌∷◌, ◌++◌};
 ghost use Rattle.std.specs.Io.KnownBytes.{IsAtEnd};
 ghost use Rattle.st_outside.specs.Causes.{Rose, RoseBeyond};
 ghost use Rattle.st_batch.specs.Causes.{Counts, IsStatusCaused};
 ghost use Rattle.st_batch.specs.Outcome.{Outside, Outcome, ReadsAll, ReadsNothing, WhereTold};
 ghost use Rattle.st_batch.specs.Texts as texts;
-ghost use Rattle.st_batch.specs.Words.{AskForNone};
-ghost use Rattle.st_batch.specs.Written.{Delivers, WordsFit};
+ghost use Rattle.st_batch.specs.Progress.{IsWhole};
+ghost use Rattle.st_batch.specs.Words.{AskFor, AskForNone};
+ghost use Rattle.st_batch.specs.Written.{Delivers, HasNoInput, IsCut, IsOfJob, WordsFit};
+ghost use Rattle.st_batch.specs.declared.job.Work.TheVariants.{Batch};
+ghost use Rattle.st_batch.specs.declared.status.Status.TheVariants.{BadSetup};
 
 use crate::answer::put_refused;
 use crate::fault::{LineFault, WordFault};
@@ -77,7 +80,27 @@ fn run_job<F: Files, I: Source, O: Sink>(
     files: &mut F,
     input: &mut I,
     out: &mut O,
-) -> Status {
+) -> Status
+    ensures told { (words : List (List ℕ)) → AskFor words job.now → WhereTold (O.taken out.old) (O.taken out.new) (Outcome
+        (record {
+            files = F.map files.old;
+            input = I.left input.old;
+            before = record { misses = F.misses files.old; faults = F.faults files.old };
+            now = record { misses = F.misses files.new; faults = F.faults files.new }
+        }) words result) }
+    ensures of_job { IsOfJob result }
+    ensures causes { IsStatusCaused result (Rose (F.misses files.old) (F.misses files.new))
+        (Rose (F.faults files.old) (F.faults files.new)) (RoseBeyond MAX_FILE (F.taken files.old) (F.taken files.new)) }
+    ensures write_fault { result ≡ Status.WriteFault → Rose (O.faults out.old) (O.faults out.new) }
+    ensures read_fault { result ≡ Status.ReadFault → Rose (I.faults input.old) (I.faults input.new) }
+    ensures too_long { result ≡ Status.InputTooLong → RoseBeyond MAX_INPUT (I.taken input.old) (I.taken input.new) }
+    ensures whole { job.now.work ≡ Batch → IsWhole result → IsAtEnd (I.left input.new) }
+    ensures left { HasNoInput job.now result → I.left input.new ≡ I.left input.old }
+    ensures taken { HasNoInput job.now result → I.taken input.new ≡ I.taken input.old }
+    ensures faults { HasNoInput job.now result → I.faults input.new ≡ I.faults input.old }
+    ensures closed { F.opened files.old ≡ false → F.opened files.new ≡ false }
+    ensures map { F.map files.new ≡ F.map files.old }
+{
     match Session::begin(alloc, job.setup.as_slice(), files) {
         Ok(session) => answer_lines(alloc, session, &job.work, files, input, out),
         Err(LineFault::OutOfMemory) => Status::OutOfMemory,
@@ -87,6 +110,10 @@ fn run_job<F: Files, I: Source, O: Sink>(
 
 /// Writes why the setup was refused.
 fn refuse_setup<O: Sink>(alloc: Global, fault: LineFault, out: &mut O) -> Status
+    requires { fault ≢ LineFault.OutOfMemory }
+    ensures delivers { Delivers (codes "bad setup " ++ (texts.refusal_text fault ++ (10 ∷ []))) (BadSetup fault)
+        (O.taken out.old) (O.taken out.new) result }
+    ensures write_fault { result ≡ Status.WriteFault → Rose (O.faults out.old) (O.faults out.new) }
 {
     let mut line = Vec::new(alloc);
     match put_refused(&mut line, b"bad setup ", &fault) {
@@ -97,6 +124,9 @@ fn refuse_setup<O: Sink>(alloc: Global, fault: LineFault, out: &mut O) -> Status
 
 /// Writes the whole output of a run that ends so.
 fn deliver<O: Sink>(out: &mut O, output: &[u8], status: Status) -> Status
+    requires { IsCut status → ⊥ }
+    ensures delivers { Delivers output.now status (O.taken out.old) (O.taken out.new) result }
+    ensures write_fault { result ≡ Status.WriteFault → Rose (O.faults out.old) (O.faults out.new) }
 {
     match write_all(out, output) {
         Ok(()) => status,

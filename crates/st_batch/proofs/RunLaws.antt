@@ -1,0 +1,327 @@
+-- What a run wrote is what it may write, by how it ended.
+use Rattle.std.proofs.Common.{◌≡◌, ◌≢◌, ℕ, ◌+◌, ◌-◌, ◌^◌, ◌≤◌, min, count_by, ◌⊎◌, inl, inr, Option, Some, None, Result, Ok, Err, List, [], ◌∷◌, ◌++◌, codes, refl, sym, ap, ◌∙◌, subst, arith}
+use Rattle.std.proofs.KnownBytes.{Appends-nil}
+use Rattle.std.specs.Io.KnownBytes.{Appends}
+use Rattle.st_outside.specs.Causes.{Rose}
+use Rattle.st_outside.specs.Entries.{Entries}
+use Rattle.st_pool.specs.declared.kernel.Kernel.{Kernel}
+use Rattle.st_text.specs.Lines.{lines_of}
+use Rattle.st_batch.specs.declared.fault.WordFault.TheVariants as word
+use Rattle.st_batch.specs.declared.fault.LineFault.{LineFault}
+use Rattle.st_batch.specs.declared.fault.LineFault.TheVariants as line
+use Rattle.st_batch.specs.declared.job.Job.{Job}
+use Rattle.st_batch.specs.declared.job.Work.{Work}
+use Rattle.st_batch.specs.declared.job.Work.TheVariants.{Time, Batch}
+use Rattle.st_batch.specs.declared.answer.Answer.{Answer}
+use Rattle.st_batch.specs.declared.answer.Answer.TheVariants.{Refused}
+use Rattle.st_batch.specs.declared.status.Status.{Status}
+use Rattle.st_batch.specs.declared.status.Status.TheVariants.{Done, SomeRefused, BadWords, BadSetup, ReadFault, WriteFault, OutOfMemory, InputTooLong}
+use Rattle.st_batch.specs.Causes.{Counts, RoseBy, AreCounted, is_file_fault, IsCaused, IsSetupCaused, IsStatusCaused}
+use Rattle.st_batch.specs.Load.{LoadGives, LoadRefuses}
+use Rattle.st_batch.specs.Outcome.{Outside, Answered, BeginsAnswers, BeginsAllowed, SetupRefused, WordsRefused, Outcome, WhereTold, ReadsAll, ReadsNothing}
+use Rattle.st_batch.specs.Progress.{AllAnswered, SomeAnswered, LinesEnd, IsOfLines, IsWhole}
+use Rattle.st_batch.specs.Texts.{refusal_text}
+use Rattle.st_batch.specs.Words.{AskFor, AskForNone, AreLines}
+use Rattle.st_batch.specs.Written.{Delivers, HasNoInput, IsCut, IsOfJob}
+use Rattle.st_batch.proofs.OneLoad.{some-load, IsSound}
+
+-- what is told of the output carries over from one word on its bytes to another
+pub told-as : (before after : Option (List ℕ)) (P Q : List ℕ → Type 0) → ((bytes : List ℕ) → P bytes → Q bytes) → WhereTold before after P → WhereTold before after Q
+told-as None after P Q f h = tt
+told-as (Some xs) after P Q f (bytes, appends, p) = (bytes, appends, f bytes p)
+
+-- the files, the input and the counts, as a run's contract puts them together
+abbrev pub outside : Option Entries → Option (List ℕ) → Counts → Counts → Outside
+outside files input before now = record { files = files; input = input; before = before; now = now }
+
+-- counts that rose from some moment on rose from an earlier one
+pub counted-from : (before mid now : Counts) (answers : List Answer) → before.misses ≤ mid.misses → before.faults ≤ mid.faults → AreCounted mid now answers → AreCounted before now answers
+counted-from before mid now answers m f c = record { misses = omega (arith, c.misses); faults = omega (arith, c.faults) }
+
+all-answered : (files : Option Entries) (input : Option (List ℕ)) (before mid now : Counts) (words : List (List ℕ)) (job : Job) (loaded : List Kernel) (status : Status) (bytes : List ℕ)
+    → before.misses ≤ mid.misses → before.faults ≤ mid.faults → AskFor words job → LoadGives files [] job.setup (Ok loaded)
+    → AllAnswered (outside files input mid now) job.work loaded status bytes → Answered (outside files input before now) words status bytes
+all-answered files input before mid now words job loaded status bytes m f asked setup h = record {
+  job = job;
+  lines = h.lines;
+  answers = h.answers;
+  asked = asked;
+  are_lines = h.are_lines;
+  short = h.short;
+  session = record { loaded = loaded; after = h.after; setup = setup; answered = h.answered; counted = counted-from before mid now h.answers m f h.counted };
+  ended = h.ended;
+  written = h.written;
+}
+
+some-answered : (files : Option Entries) (input : Option (List ℕ)) (before mid now : Counts) (words : List (List ℕ)) (job : Job) (loaded : List Kernel) (bytes : List ℕ)
+    → before.misses ≤ mid.misses → before.faults ≤ mid.faults → AskFor words job → LoadGives files [] job.setup (Ok loaded)
+    → SomeAnswered (outside files input mid now) job.work loaded bytes → BeginsAnswers (outside files input before now) words bytes
+some-answered files input before mid now words job loaded bytes m f asked setup h = record {
+  job = job;
+  lines = h.lines;
+  more = h.more;
+  answers = h.answers;
+  rest = h.rest;
+  asked = asked;
+  are_lines = h.are_lines;
+  session = record { loaded = loaded; after = h.after; setup = setup; answered = h.answered; counted = counted-from before mid now h.answers m f h.counted };
+  written = h.written;
+}
+
+lines-end : (files : Option Entries) (input : Option (List ℕ)) (before mid now : Counts) (words : List (List ℕ)) (job : Job) (loaded : List Kernel) (status : Status) (bytes : List ℕ)
+    → before.misses ≤ mid.misses → before.faults ≤ mid.faults → AskFor words job → LoadGives files [] job.setup (Ok loaded)
+    → LinesEnd (outside files input mid now) job.work loaded status bytes → Outcome (outside files input before now) words status bytes
+lines-end files input before mid now words job loaded Done bytes m f asked setup h = all-answered files input before mid now words job loaded Done bytes m f asked setup h
+lines-end files input before mid now words job loaded SomeRefused bytes m f asked setup h = all-answered files input before mid now words job loaded SomeRefused bytes m f asked setup h
+lines-end files input before mid now words job loaded (BadWords w) bytes m f asked setup h = absurd h
+lines-end files input before mid now words job loaded (BadSetup c) bytes m f asked setup h = absurd h
+lines-end files input before mid now words job loaded ReadFault bytes m f asked setup h = some-answered files input before mid now words job loaded bytes m f asked setup h
+lines-end files input before mid now words job loaded InputTooLong bytes m f asked setup h =
+    (some-answered files input before mid now words job loaded bytes m f asked setup h.0, h.1)
+lines-end files input before mid now words job loaded WriteFault bytes m f asked setup h = inl (some-answered files input before mid now words job loaded bytes m f asked setup h)
+lines-end files input before mid now words job loaded OutOfMemory bytes m f asked setup h = inl (some-answered files input before mid now words job loaded bytes m f asked setup h)
+
+-- a setup that was loaded, and the lines that were then answered
+pub lines-outcome : (files same : Option Entries) (input taken after : Option (List ℕ)) (before mid now : Counts) (words : List (List ℕ)) (job : Job) (loaded : List Kernel) (status : Status)
+    → same ≡ files → before.misses ≤ mid.misses → before.faults ≤ mid.faults → AskFor words job → LoadGives files [] job.setup (Ok loaded)
+    → WhereTold taken after (LinesEnd (outside same input mid now) job.work loaded status)
+    → WhereTold taken after (Outcome (outside files input before now) words status)
+lines-outcome files same input taken after before mid now words job loaded status e m f asked setup h =
+    let P : Option Entries → Type 0 = λ fs. WhereTold taken after (LinesEnd (outside fs input mid now) job.work loaded status) in
+    told-as taken after (LinesEnd (outside files input mid now) job.work loaded status) (Outcome (outside files input before now) words status)
+    (λ bytes. lines-end files input before mid now words job loaded status bytes m f asked setup) (subst P e h)
+
+cut-begins : (o : Outside) (words : List (List ℕ)) (status : Status) (bytes : List ℕ) → IsCut status → BeginsAllowed o words bytes → Outcome o words status bytes
+cut-begins o words Done bytes cut b = absurd cut
+cut-begins o words SomeRefused bytes cut b = absurd cut
+cut-begins o words (BadWords w) bytes cut b = absurd cut
+cut-begins o words (BadSetup c) bytes cut b = absurd cut
+cut-begins o words ReadFault bytes cut b = absurd cut
+cut-begins o words InputTooLong bytes cut b = absurd cut
+cut-begins o words WriteFault bytes cut b = b
+cut-begins o words OutOfMemory bytes cut b = b
+
+-- a whole output that was delivered
+delivered : (o : Outside) (words : List (List ℕ)) (output : List ℕ) (wanted status : Status) (taken after : Option (List ℕ))
+    → Outcome o words wanted output → ((front rest : List ℕ) → output ≡ front ++ rest → BeginsAllowed o words front)
+    → Delivers output wanted taken after status → WhereTold taken after (Outcome o words status)
+delivered o words output wanted status None after whole begins d = tt
+delivered o words output wanted status (Some xs) after whole begins (inl (appends, same)) =
+    let P : Status → Type 0 = λ s. Outcome o words s output in
+    (output, appends, subst P (sym same) whole)
+delivered o words output wanted status (Some xs) after whole begins (inr ((front, rest, appends, e), cut)) =
+    (front, appends, cut-begins o words status front cut (begins front rest e))
+
+abbrev pub setup_line : LineFault → List ℕ
+setup_line cause = codes "bad setup " ++ (refusal_text cause ++ (10 ∷ []))
+
+-- a setup that was refused
+pub setup-outcome : (o : Outside) (words : List (List ℕ)) (job : Job) (cause : LineFault) (status : Status) (taken after : Option (List ℕ))
+    → AskFor words job → LoadGives o.files [] job.setup (Err cause) → AreCounted o.before o.now (Refused cause ∷ [])
+    → Delivers (setup_line cause) (BadSetup cause) taken after status → WhereTold taken after (Outcome o words status)
+setup-outcome o words job cause status taken after asked given counted d =
+    delivered o words (setup_line cause) (BadSetup cause) status taken after
+    (record { job = job; asked = asked; given = given; caused = counted.faults; written = refl })
+    (λ front rest e. inr (rest, inr (cause, record { job = job; asked = asked; given = given; caused = counted.faults; written = sym e })))
+    d
+
+-- words that were refused
+pub words-outcome : (o : Outside) (words : List (List ℕ)) (status : Status) (taken after : Option (List ℕ)) → AskForNone words
+    → Delivers (codes "bad words NOT_BUILT\n") (BadWords word.NotBuilt) taken after status → WhereTold taken after (Outcome o words status)
+words-outcome o words status taken after none d =
+    delivered o words (codes "bad words NOT_BUILT\n") (BadWords word.NotBuilt) status taken after
+    (record { none = none; written = refl })
+    (λ front rest e. inr (rest, inl (record { none = none; written = sym e })))
+    d
+
+some-lines : (work : Work) (input : Option (List ℕ)) → (lines : List (List ℕ)) × AreLines work input lines
+some-lines (Time text) input = (text ∷ [], refl)
+some-lines Batch None = ([], tt)
+some-lines Batch (Some bytes) = (lines_of bytes, refl)
+
+-- a refusal that names no fault of the files wants none
+no-fault : (cause : LineFault) (before now : ℕ) → ◌≢◌ {A = Result (List Kernel) LineFault} (Err cause) (Err line.FileFault) → before ≤ now
+    → RoseBy (count_by is_file_fault (Refused cause ∷ [])) before now
+no-fault line.BadCommand before now not later = omega (arith, later)
+no-fault line.LineTooLong before now not later = omega (arith, later)
+no-fault line.NoFile before now not later = omega (arith, later)
+no-fault line.FileFault before now not later = absurd (not refl)
+no-fault line.FileTooLong before now not later = omega (arith, later)
+no-fault (line.KernelText n c) before now not later = omega (arith, later)
+no-fault line.TooManyKernels before now not later = omega (arith, later)
+no-fault line.TooManyValues before now not later = omega (arith, later)
+no-fault line.NotLoaded before now not later = omega (arith, later)
+no-fault line.NotBuilt before now not later = omega (arith, later)
+no-fault line.BadTime before now not later = omega (arith, later)
+no-fault line.OutOfMemory before now not later = omega (arith, later)
+
+-- where nothing was written there is an output that begins so
+setup-begins : (o : Outside) (words : List (List ℕ)) (job : Job) (r : Result (List Kernel) LineFault) → AskFor words job → o.before.misses ≤ o.now.misses → o.before.faults ≤ o.now.faults
+    → IsSound o.files [] job.setup r → BeginsAllowed o words []
+setup-begins o words job (Ok loaded) asked m f (given, not) =
+    let ls = some-lines job.work o.input in
+    inl (record {
+      job = job;
+      lines = [];
+      more = ls.0;
+      answers = [];
+      rest = [];
+      asked = asked;
+      are_lines = ls.1;
+      session = record { loaded = loaded; after = loaded; setup = given; answered = refl; counted = record { misses = omega (arith, m); faults = omega (arith, f) } };
+      written = refl;
+    })
+setup-begins o words job (Err cause) asked m f (given, not) =
+    inr (setup_line cause, inr (cause, record { job = job; asked = asked; given = given; caused = no-fault cause o.before.faults o.now.faults not f; written = refl }))
+
+job-begins : (o : Outside) (words : List (List ℕ)) (job : Job) → AskFor words job → o.before.misses ≤ o.now.misses → o.before.faults ≤ o.now.faults → BeginsAllowed o words []
+job-begins o words job asked m f =
+    let r = some-load o.files [] job.setup in
+    setup-begins o words job r.0 asked m f r.1
+
+nothing : (o : Outside) (words : List (List ℕ)) (taken : Option (List ℕ)) → BeginsAllowed o words [] → WhereTold taken taken (Outcome o words OutOfMemory)
+nothing o words None b = tt
+nothing o words (Some xs) b = ([], Appends-nil (Some xs), b)
+
+-- where memory ran out before anything was written
+pub nothing-of-job : (o : Outside) (words : List (List ℕ)) (job : Job) (taken : Option (List ℕ)) → AskFor words job → o.before.misses ≤ o.now.misses → o.before.faults ≤ o.now.faults
+    → WhereTold taken taken (Outcome o words OutOfMemory)
+nothing-of-job o words job taken asked m f = nothing o words taken (job-begins o words job asked m f)
+
+pub nothing-of-words : (o : Outside) (words : List (List ℕ)) (taken : Option (List ℕ)) → ((job : Job) × AskFor words job) ⊎ AskForNone words
+    → o.before.misses ≤ o.now.misses → o.before.faults ≤ o.now.faults → WhereTold taken taken (Outcome o words OutOfMemory)
+nothing-of-words o words taken (inl (job, asked)) m f = nothing-of-job o words job taken asked m f
+nothing-of-words o words taken (inr none) m f = nothing o words taken (inr (codes "bad words NOT_BUILT\n", inl (record { none = none; written = refl })))
+
+-- the causes of a setup that was refused, as counts
+pub setup-counted : (fault : LineFault) (before now : Counts) (Long : Type 0) → fault ≢ line.OutOfMemory → before.misses ≤ now.misses → before.faults ≤ now.faults
+    → IsSetupCaused fault (Rose before.misses now.misses) (Rose before.faults now.faults) Long → AreCounted before now (Refused fault ∷ [])
+setup-counted line.BadCommand before now Long not m f c = record { misses = omega (arith, m); faults = omega (arith, f) }
+setup-counted line.LineTooLong before now Long not m f c = record { misses = omega (arith, m); faults = omega (arith, f) }
+setup-counted line.NoFile before now Long not m f c = record { misses = omega (arith, c); faults = omega (arith, f) }
+setup-counted line.FileFault before now Long not m f c = record { misses = omega (arith, m); faults = omega (arith, c) }
+setup-counted line.FileTooLong before now Long not m f c = record { misses = omega (arith, m); faults = omega (arith, f) }
+setup-counted (line.KernelText n k) before now Long not m f c = record { misses = omega (arith, m); faults = omega (arith, f) }
+setup-counted line.TooManyKernels before now Long not m f c = record { misses = omega (arith, m); faults = omega (arith, f) }
+setup-counted line.TooManyValues before now Long not m f c = record { misses = omega (arith, m); faults = omega (arith, f) }
+setup-counted line.NotLoaded before now Long not m f c = record { misses = omega (arith, m); faults = omega (arith, f) }
+setup-counted line.NotBuilt before now Long not m f c = record { misses = omega (arith, m); faults = omega (arith, f) }
+setup-counted line.BadTime before now Long not m f c = record { misses = omega (arith, m); faults = omega (arith, f) }
+setup-counted line.OutOfMemory before now Long not m f c = absurd (not refl)
+
+pub setup-caused : (fault : LineFault) (Missed Failed Long : Type 0) → fault ≢ line.OutOfMemory → IsSetupCaused fault Missed Failed Long → IsCaused fault Missed Failed Long
+setup-caused line.BadCommand Missed Failed Long not c = c
+setup-caused line.LineTooLong Missed Failed Long not c = c
+setup-caused line.NoFile Missed Failed Long not c = c
+setup-caused line.FileFault Missed Failed Long not c = c
+setup-caused line.FileTooLong Missed Failed Long not c = c
+setup-caused (line.KernelText n k) Missed Failed Long not c = c
+setup-caused line.TooManyKernels Missed Failed Long not c = c
+setup-caused line.TooManyValues Missed Failed Long not c = c
+setup-caused line.NotLoaded Missed Failed Long not c = c
+setup-caused line.NotBuilt Missed Failed Long not c = c
+setup-caused line.BadTime Missed Failed Long not c = c
+setup-caused line.OutOfMemory Missed Failed Long not c = absurd (not refl)
+
+pub load-refused : (files : Option Entries) (loaded : List Kernel) (name : List ℕ) (fault : LineFault) → fault ≢ line.OutOfMemory → LoadRefuses files loaded name fault → LoadGives files loaded name (Err fault)
+load-refused files loaded name line.BadCommand not h = h
+load-refused files loaded name line.LineTooLong not h = h
+load-refused files loaded name line.NoFile not h = h
+load-refused files loaded name line.FileFault not h = h
+load-refused files loaded name line.FileTooLong not h = h
+load-refused files loaded name (line.KernelText n c) not h = h
+load-refused files loaded name line.TooManyKernels not h = h
+load-refused files loaded name line.TooManyValues not h = h
+load-refused files loaded name line.NotLoaded not h = h
+load-refused files loaded name line.NotBuilt not h = h
+load-refused files loaded name line.BadTime not h = h
+load-refused files loaded name line.OutOfMemory not h = absurd (not refl)
+
+-- a status other than that of a refused setup wants no cause
+pub lines-caused : (status : Status) (Missed Failed Long : Type 0) → IsOfLines status → IsStatusCaused status Missed Failed Long
+lines-caused Done Missed Failed Long h = tt
+lines-caused SomeRefused Missed Failed Long h = tt
+lines-caused (BadWords w) Missed Failed Long h = absurd h
+lines-caused (BadSetup c) Missed Failed Long h = absurd h
+lines-caused ReadFault Missed Failed Long h = tt
+lines-caused WriteFault Missed Failed Long h = tt
+lines-caused OutOfMemory Missed Failed Long h = tt
+lines-caused InputTooLong Missed Failed Long h = tt
+
+-- what was delivered has the cause of what was to be
+pub delivered-caused : (output : List ℕ) (fault : LineFault) (status : Status) (taken after : Option (List ℕ)) (Missed Failed Long : Type 0) → IsCaused fault Missed Failed Long
+    → Delivers output (BadSetup fault) taken after status → IsStatusCaused status Missed Failed Long
+delivered-caused output fault status taken after Missed Failed Long c (inl (appends, same)) =
+    let P : Status → Type 0 = λ s. IsStatusCaused s Missed Failed Long in
+    subst P (sym same) c
+delivered-caused output fault status taken after Missed Failed Long c (inr (took, cut)) = cut-caused status Missed Failed Long cut
+  where
+    cut-caused : (status : Status) (Missed Failed Long : Type 0) → IsCut status → IsStatusCaused status Missed Failed Long
+    cut-caused Done Missed Failed Long h = absurd h
+    cut-caused SomeRefused Missed Failed Long h = absurd h
+    cut-caused (BadWords w) Missed Failed Long h = absurd h
+    cut-caused (BadSetup c) Missed Failed Long h = absurd h
+    cut-caused ReadFault Missed Failed Long h = absurd h
+    cut-caused WriteFault Missed Failed Long h = tt
+    cut-caused OutOfMemory Missed Failed Long h = tt
+    cut-caused InputTooLong Missed Failed Long h = absurd h
+
+pub delivered-of-job : (output : List ℕ) (fault : LineFault) (status : Status) (taken after : Option (List ℕ)) → Delivers output (BadSetup fault) taken after status → IsOfJob status
+delivered-of-job output fault status taken after (inl (appends, same)) =
+    let P : Status → Type 0 = λ s. IsOfJob s in
+    subst P (sym same) tt
+delivered-of-job output fault status taken after (inr (took, cut)) = cut-of-job status cut
+  where
+    cut-of-job : (status : Status) → IsCut status → IsOfJob status
+    cut-of-job Done h = absurd h
+    cut-of-job SomeRefused h = absurd h
+    cut-of-job (BadWords w) h = absurd h
+    cut-of-job (BadSetup c) h = absurd h
+    cut-of-job ReadFault h = absurd h
+    cut-of-job WriteFault h = tt
+    cut-of-job OutOfMemory h = tt
+    cut-of-job InputTooLong h = absurd h
+
+pub lines-of-job : (status : Status) → IsOfLines status → IsOfJob status
+lines-of-job Done h = tt
+lines-of-job SomeRefused h = tt
+lines-of-job (BadWords w) h = absurd h
+lines-of-job (BadSetup c) h = absurd h
+lines-of-job ReadFault h = tt
+lines-of-job WriteFault h = tt
+lines-of-job OutOfMemory h = tt
+lines-of-job InputTooLong h = tt
+
+-- a run of lines without an input to read is of one line
+pub lines-no-input : (job : Job) (status : Status) → IsOfLines status → HasNoInput job status → job.work ≢ Batch
+lines-no-input job Done l h = h
+lines-no-input job SomeRefused l h = h
+lines-no-input job (BadWords w) l h = absurd l
+lines-no-input job (BadSetup c) l h = absurd l
+lines-no-input job ReadFault l h = h
+lines-no-input job WriteFault l h = h
+lines-no-input job OutOfMemory l h = h
+lines-no-input job InputTooLong l h = h
+
+-- a run that read nothing by the words had no input by their job
+pub no-input : (words : List (List ℕ)) (job : Job) (status : Status) → AskFor words job → ReadsNothing words status → HasNoInput job status
+no-input words job Done asked h = λ e. h job asked e
+no-input words job SomeRefused asked h = λ e. h job asked e
+no-input words job (BadWords w) asked h = tt
+no-input words job (BadSetup c) asked h = tt
+no-input words job ReadFault asked h = λ e. h job asked e
+no-input words job WriteFault asked h = λ e. h job asked e
+no-input words job OutOfMemory asked h = λ e. h job asked e
+no-input words job InputTooLong asked h = λ e. h job asked e
+
+-- a run that read all by the words did so by their job
+pub reads-all : (words : List (List ℕ)) (job : Job) (status : Status) → ((other : Job) → AskFor words other → other ≡ job) → ReadsAll words status
+    → (job.work ≡ Batch) × IsWhole status
+reads-all words job Done one (other, asked, e) = (sym (ap (λ (j : Job). j.work) (one other asked)) ∙ e, tt)
+reads-all words job SomeRefused one (other, asked, e) = (sym (ap (λ (j : Job). j.work) (one other asked)) ∙ e, tt)
+reads-all words job (BadWords w) one h = absurd h
+reads-all words job (BadSetup c) one h = absurd h
+reads-all words job ReadFault one h = absurd h
+reads-all words job WriteFault one h = absurd h
+reads-all words job OutOfMemory one h = absurd h
+reads-all words job InputTooLong one h = absurd h
