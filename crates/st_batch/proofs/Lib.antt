@@ -1,6 +1,7 @@
 pub mod CommandLaws
 pub mod Decimals
 pub mod KernelLaws
+pub mod LineLaws
 pub mod Numbers
 pub mod OneLoad
 pub mod PairsLaws
