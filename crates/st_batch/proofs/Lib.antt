@@ -6,5 +6,7 @@ pub mod PairsLaws
 pub mod ScanLaws
 pub mod TableLaws
 pub mod Tests
+pub mod Told
 pub mod UtcFields
 pub mod UtcLaws
+pub mod VariableLaws
