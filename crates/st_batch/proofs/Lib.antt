@@ -9,5 +9,7 @@ pub mod RunLaws
 pub mod ScanLaws
 pub mod TableLaws
 pub mod Tests
+pub mod Told
 pub mod UtcFields
 pub mod UtcLaws
+pub mod VariableLaws

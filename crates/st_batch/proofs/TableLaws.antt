@@ -212,3 +212,26 @@ not-given loaded numbers table same none g =
 -- values that aren't all numbers give no table
 pub text-given : (loaded : List Kernel) (table : List LeapPair) → are_numbers (loaded_values delta_at loaded) ≡ false → GiveTable loaded table → ⊥
 text-given loaded table some g = false≢true (sym some ∙ (spell-up (loaded_values delta_at loaded) table g.spelled g.is_table.in_range).0)
+
+-- values that spell pairs are two for each of them, so too many values give no table
+spells-length : (values : List Value) (pairs : List LeapPair) → SpellPairs values pairs → length values ≡ length pairs + length pairs
+spells-length [] [] s = refl
+spells-length [] (p ∷ pairs) s = absurd s
+spells-length ((Text t) ∷ values) [] s = absurd s
+spells-length ((Text t) ∷ values) (p ∷ pairs) s = absurd s
+spells-length ((Number c) ∷ []) [] s = absurd s
+spells-length ((Number c) ∷ []) (p ∷ pairs) s = absurd s
+spells-length ((Number c) ∷ (Text t) ∷ values) [] s = absurd s
+spells-length ((Number c) ∷ (Text t) ∷ values) (p ∷ pairs) s = absurd s
+spells-length ((Number c) ∷ (Number d) ∷ values) [] s = absurd s
+spells-length ((Number c) ∷ (Number d) ∷ values) (p ∷ pairs) (whole, units, more) = omega (arith, spells-length values pairs more)
+
+pub many-given : (loaded : List Kernel) (table : List LeapPair) → 2000 < length (loaded_values delta_at loaded) → GiveTable loaded table → ⊥
+many-given loaded table many g = omega (arith, many, spells-length (loaded_values delta_at loaded) table g.spelled, g.is_table.few)
+
+-- the loaded kernels give one table at most
+pub one-table : (loaded : List Kernel) (a b : List LeapPair) → GiveTable loaded a → GiveTable loaded b → a ≡ b
+one-table loaded a b g h =
+    let m = spell-up (loaded_values delta_at loaded) a g.spelled g.is_table.in_range in
+    let n = spell-up (loaded_values delta_at loaded) b h.spelled h.is_table.in_range in
+    one-pairs (numbers_in (loaded_values delta_at loaded)) a b m.1 n.1

@@ -1,6 +1,6 @@
 //! The values that the loaded kernels give a variable.
 
-ghost use Rattle.std.specs.Prelude.{◌≡◌, IfOk};
+ghost use Rattle.std.specs.Prelude.{◌≡◌, ◌&&◌, [], ◌∷◌, ◌++◌, IfOk, OnOk};
 ghost use Rattle.st_pool.specs.Variable.{loaded_values};
 ghost use Rattle.st_batch.specs.NumbersMachine.{numbers_in, are_numbers};
 
@@ -27,10 +27,21 @@ pub fn numbers_of(alloc: Global, pool: &Pool, name: &[u8]) -> Result<Numbers, Ou
         all: true,
     };
     for i in 0..pool.count(name) {
-        match pool.value(name, i) {
-            Some(Value::Number(number)) => numbers.list.push(*number)?,
-            _ => numbers.all = false,
+        if let Some(value) = pool.value(name, i) {
+            add(&mut numbers, value)?;
         }
     }
     Ok(numbers)
+}
+
+/// Adds what one more value is.
+fn add(numbers: &mut Numbers, value: &Value) -> Result<(), OutOfMemory>
+    ensures list { OnOk result (numbers.new.list.items ≡ numbers.old.list.items ++ numbers_in (value.now ∷ [])) }
+    ensures all { OnOk result (numbers.new.all ≡ (numbers.old.all && are_numbers (value.now ∷ []))) }
+{
+    match value {
+        Value::Number(number) => numbers.list.push(*number)?,
+        Value::Text(_) => numbers.all = false,
+    }
+    Ok(())
 }
