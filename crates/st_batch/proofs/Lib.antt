@@ -4,6 +4,7 @@ pub mod KernelLaws
 pub mod LineLaws
 pub mod Numbers
 pub mod OneLoad
+pub mod OneOutput
 pub mod PairsLaws
 pub mod RunLaws
 pub mod ScanLaws

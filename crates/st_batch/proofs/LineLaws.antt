@@ -1,7 +1,8 @@
 -- A line has one answer by a loaded list and files that tell their bytes, unless a file is faulty; and every line has one.
-use Rattle.std.proofs.Common.{◌≡◌, ◌≢◌, ℕ, ◌<◌, ◌≤◌, ◌⊎◌, inl, inr, Bool, true, false, Option, Some, None, Result, Ok, Err, ℤ, List, [], ◌∷◌, ◌++◌, length, codes, refl, sym, ap, ◌∙◌, subst, arith, bytes_eq}
+use Rattle.std.proofs.Common.{◌≡◌, ◌≢◌, ℕ, ◌<◌, ◌≤◌, ◌⊎◌, inl, inr, Bool, true, false, Option, Some, None, Result, Ok, Err, ℤ, pos, negsuc, List, [], ◌∷◌, ◌++◌, length, codes, refl, sym, ap, ◌∙◌, subst, arith, bytes_eq}
 use Rattle.std.proofs.lemmas.Bool.{cases_Bool, cases_lt, false≢true}
 use Rattle.std.proofs.lemmas.Int.{ints}
+use Rattle.std.specs.Int.{int_div_euclid}
 use Rattle.std.proofs.lemmas.Slice.Eq.{bytes_eq-Decides}
 use Rattle.st_decimal.specs.Fixed.{fixed}
 use Rattle.st_dates.specs.declared.label.Label.{Label}
@@ -21,8 +22,11 @@ use Rattle.st_batch.specs.Line.{TimeGives}
 use Rattle.st_batch.specs.Load.{LoadGives}
 use Rattle.st_batch.specs.Session.{IsTruncated, SpellsSeconds, IsLine, IsTime, HaveNoTable, MayRefuse, CarriesOut, Converts, MayAnswer, RunsTo}
 use Rattle.st_batch.specs.UtcTime.{IsUtcTime}
+use Rattle.st_batch.specs.UtcTimeMachine.{utc_of_text}
 use Rattle.st_batch.proofs.CommandLaws as command
-use Rattle.st_batch.proofs.OneLoad.{one-load}
+use Rattle.st_batch.proofs.OneLoad.{IsSound, one-load, some-load}
+use Rattle.st_batch.proofs.TableLaws.{one-table}
+use Rattle.st_batch.proofs.Told.{told-table}
 use Rattle.st_batch.proofs.UtcLaws as utc_laws
 
 -- an answer, and the loaded list after it
@@ -162,8 +166,8 @@ one-time loaded text (Refused NotBuilt) (Text s) (time, none) k = absurd (none k
 one-time loaded text (Refused BadTime) (Text s) (time, table, none) k = absurd (none k.label k.read)
 one-time loaded text (Refused NotBuilt) (Refused NotBuilt) h k = refl
 one-time loaded text (Refused BadTime) (Refused BadTime) h k = refl
-one-time loaded text (Refused NotBuilt) (Refused BadTime) (time, none) (other, table, no) = absurd (none table.0 table.1)
-one-time loaded text (Refused BadTime) (Refused NotBuilt) (time, table, no) (other, none) = absurd (none table.0 table.1)
+one-time loaded text (Refused NotBuilt) (Refused BadTime) (time, none) (other, table, never) = absurd (none table.0 table.1)
+one-time loaded text (Refused BadTime) (Refused NotBuilt) (time, table, never) (other, none) = absurd (none table.0 table.1)
 one-time loaded text (Refused BadCommand) b h k = absurd h
 one-time loaded text (Refused LineTooLong) b h k = absurd h
 one-time loaded text (Refused NoFile) b h k = absurd h
@@ -296,3 +300,98 @@ both-views files loaded line x y (inr h) (inr k) m n = one-view files loaded (tr
 pub one-step : (files : Entries) (loaded : List Kernel) (line : List ℕ) (a b : Answer) (x y : List Kernel) → MayAnswer (Some files) loaded line a x → MayAnswer (Some files) loaded line b y
     → a ≢ Refused FileFault → b ≢ Refused FileFault → ◌≡◌ {A = Step} (a, x) (b, y)
 one-step files loaded line a b x y h k m n = both-views files loaded line (a, x) (b, y) (line-view (Some files) loaded line a x h) (line-view (Some files) loaded line b y k) m n
+
+-- a time has a number of whole microseconds
+truncated : (units : ℤ) → (micros : ℤ) × IsTruncated units micros
+truncated units = (int_div_euclid units (pos 1_000_000_000_000), by units)
+  where
+    by : (units : ℤ) → IsTruncated units (int_div_euclid units (pos 1_000_000_000_000))
+    by (pos n) = record { from = omega (arith, ints); to = omega (arith, ints) }
+    by (negsuc n) = record { from = omega (arith, ints); to = omega (arith, ints) }
+
+-- an answer that names no fault of the files
+pub record SomeAnswer (files : Option Entries) (loaded : List Kernel) (line : List ℕ) : Type 0 where
+  pub answer : Answer
+  pub after : List Kernel
+  pub may : MayAnswer files loaded line answer after
+  pub no_fault : answer ≢ Refused FileFault
+
+some-time : (files : Option Entries) (loaded : List Kernel) (line : List ℕ) → IsLine line (trimmed line) → IsTime (trimmed line) → SomeAnswer files loaded line
+some-time files loaded line is time = by (told-table loaded) (utc_of_text (trimmed line)) refl
+  where
+    by : ((table : List LeapPair) × GiveTable loaded table) ⊎ (((table : List LeapPair) × GiveTable loaded table) → ⊥) → (o : Option Label) → utc_of_text (trimmed line) ≡ o
+        → SomeAnswer files loaded line
+    by (inr none) o e = record { answer = Refused NotBuilt; after = loaded; may = ((trimmed line, is, (time, λ table g. none (table, g))), refl); no_fault = λ f. cc }
+    by (inl t) None e =
+        record { answer = Refused BadTime; after = loaded; may = ((trimmed line, is, (time, t, λ label h. none label (utc_laws.only (trimmed line) label h) e)), refl); no_fault = λ f. cc }
+      where
+        none : (label : Label) → utc_of_text (trimmed line) ≡ Some label → utc_of_text (trimmed line) ≡ None → ⊥
+        none label h k = absurd cc
+    by (inl t) (Some label) e =
+        let m = truncated (tai_of t.0 label) in
+        record {
+          answer = Text (fixed m.0 6);
+          after = loaded;
+          may = (
+            trimmed line,
+            is,
+            inr (record { time = time; table = t.0; given = t.1; label = label; read = utc_laws.reads (trimmed line) label e; printed = (m.0, m.1, refl) }, refl),
+          );
+          no_fault = λ f. cc;
+        }
+
+-- of a loading
+loading-answer : (files : Option Entries) (loaded : List Kernel) (line name : List ℕ) (r : Result (List Kernel) LineFault) → IsLine line (trimmed line) → IsLoad (trimmed line) name
+    → IsSound files loaded name r → SomeAnswer files loaded line
+loading-answer files loaded line name (Ok after) is asked (given, not) =
+    record { answer = Text (codes "loaded"); after = after; may = (trimmed line, is, inl (inl (name, asked, given, refl))); no_fault = λ f. cc }
+loading-answer files loaded line name (Err BadCommand) is asked (given, not) = absurd given
+loading-answer files loaded line name (Err LineTooLong) is asked (given, not) = absurd given
+loading-answer files loaded line name (Err NoFile) is asked (given, not) = record { answer = Refused NoFile; after = loaded; may = ((trimmed line, is, (name, asked, given)), refl); no_fault = λ f. cc }
+loading-answer files loaded line name (Err FileFault) is asked (given, not) = absurd (not refl)
+loading-answer files loaded line name (Err FileTooLong) is asked (given, not) = record { answer = Refused FileTooLong; after = loaded; may = ((trimmed line, is, (name, asked, given)), refl); no_fault = λ f. cc }
+loading-answer files loaded line name (Err (KernelText n c)) is asked (given, not) = record { answer = Refused (KernelText n c); after = loaded; may = ((trimmed line, is, (name, asked, given)), refl); no_fault = λ f. cc }
+loading-answer files loaded line name (Err TooManyKernels) is asked (given, not) = record { answer = Refused TooManyKernels; after = loaded; may = ((trimmed line, is, (name, asked, given)), refl); no_fault = λ f. cc }
+loading-answer files loaded line name (Err TooManyValues) is asked (given, not) = record { answer = Refused TooManyValues; after = loaded; may = ((trimmed line, is, (name, asked, given)), refl); no_fault = λ f. cc }
+loading-answer files loaded line name (Err NotLoaded) is asked (given, not) = absurd given
+loading-answer files loaded line name (Err NotBuilt) is asked (given, not) = absurd given
+loading-answer files loaded line name (Err BadTime) is asked (given, not) = absurd given
+loading-answer files loaded line name (Err OutOfMemory) is asked (given, not) = absurd given
+
+some-command : (files : Option Entries) (loaded : List Kernel) (line : List ℕ) → IsLine line (trimmed line) → begins_command (trimmed line) ≡ true → SomeAnswer files loaded line
+some-command files loaded line is begins =
+    by (command.told-name (codes "$load") (trimmed line)) (command.told-name (codes "$unload") (trimmed line)) (cases_Bool (bytes_eq (trimmed line) (codes "$clear")))
+  where
+    unloading : (name : List ℕ) (b : Bool) → IsUnload (trimmed line) name → is_loaded name loaded ≡ b → SomeAnswer files loaded line
+    unloading name true asked e =
+        record { answer = Text (codes "unloaded"); after = without_last name loaded; may = (trimmed line, is, inl (inr (inl (name, asked, e, refl, refl)))); no_fault = λ f. cc }
+    unloading name false asked e = record { answer = Refused NotLoaded; after = loaded; may = ((trimmed line, is, (name, asked, e)), refl); no_fault = λ f. cc }
+
+    by : ((name : List ℕ) × IsLoad (trimmed line) name) ⊎ ((name : List ℕ) → IsLoad (trimmed line) name → ⊥)
+        → ((name : List ℕ) × IsUnload (trimmed line) name) ⊎ ((name : List ℕ) → IsUnload (trimmed line) name → ⊥)
+        → (bytes_eq (trimmed line) (codes "$clear") ≡ true) ⊎ (bytes_eq (trimmed line) (codes "$clear") ≡ false) → SomeAnswer files loaded line
+    by (inl (name, asked)) u c =
+        let r = some-load files loaded name in
+        loading-answer files loaded line name r.0 is asked r.1
+    by (inr never) (inl (name, asked)) c = unloading name (is_loaded name loaded) asked refl
+    by (inr never) (inr none) (inl y) =
+        record { answer = Text (codes "cleared"); after = []; may = (trimmed line, is, inl (inr (inr ((bytes_eq-Decides (trimmed line) (codes "$clear")).0 y, refl, refl)))); no_fault = λ f. cc }
+    by (inr never) (inr none) (inr n) =
+        record {
+          answer = Refused BadCommand;
+          after = loaded;
+          may = (
+            (trimmed line, is, (begins, record { load = never; unload = none; clear = λ e. false≢true (sym n ∙ (bytes_eq-Decides (trimmed line) (codes "$clear")).1 e) })),
+            refl,
+          );
+          no_fault = λ f. cc;
+        }
+
+-- every line has an answer that names no fault of the files
+pub some-answer : (files : Option Entries) (loaded : List Kernel) (line : List ℕ) → SomeAnswer files loaded line
+some-answer files loaded line = by (cases_lt MAX_LINE (length line)) (cases_Bool (begins_command (trimmed line)))
+  where
+    by : (MAX_LINE < length line) ⊎ (length line ≤ MAX_LINE) → (begins_command (trimmed line) ≡ true) ⊎ (begins_command (trimmed line) ≡ false) → SomeAnswer files loaded line
+    by (inl long) b = record { answer = Refused LineTooLong; after = loaded; may = (long, refl); no_fault = λ f. cc }
+    by (inr short) (inl y) = some-command files loaded line (record { short = short; trimmed = refl }) y
+    by (inr short) (inr n) = some-time files loaded line (record { short = short; trimmed = refl }) n

@@ -1,7 +1,5 @@
-use Rattle.st_batch.proofs.OneLoad.{one-load}
-use Rattle.st_batch.proofs.RunLaws.{told-as}
-use Rattle.st_batch.proofs.LineLaws.{one-step}
+use Rattle.st_batch.proofs.OneOutput.{one-output}
 use Rattle.st_batch.proofs.laws.one_output.Goals as goal
 
 pub returns : goal.returns
-returns = ?
+returns c o files input words first second one other told m n h k = one-output o files input words first second one other told m n h k
