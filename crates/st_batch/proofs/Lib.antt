@@ -14,3 +14,4 @@ pub mod Told
 pub mod UtcFields
 pub mod UtcLaws
 pub mod VariableLaws
+pub mod WordsLaws

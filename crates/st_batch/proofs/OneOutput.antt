@@ -1,5 +1,6 @@
 -- Where the files had no fault the definitions allow one whole output.
 use Rattle.std.proofs.Common.{◌≡◌, ◌≢◌, ℕ, ◌+◌, ◌-◌, ◌^◌, ◌<◌, ◌≤◌, ◌⊎◌, inl, inr, cond, count_by, Option, Some, Result, Ok, Err, List, [], ◌∷◌, ◌++◌, codes, refl, sym, ap, ◌∙◌, subst, arith}
+use Rattle.std.proofs.lemmas.List.Sums.{sum_by-cons}
 use Rattle.std.specs.List.{flat_map}
 use Rattle.st_outside.specs.Entries.{Entries}
 use Rattle.st_pool.specs.declared.kernel.Kernel.{Kernel}
@@ -28,12 +29,15 @@ use Rattle.st_batch.proofs.WordsLaws.{one-job}
 none-rose : (n before now : ℕ) → now ≡ before → before < 2 ^ 64 - 1 → RoseBy n before now → n ≡ 0
 none-rose n before now same less h = omega (arith, same, less, h)
 
-names-none : (answer : Answer) (n : ℕ) → cond (is_file_fault answer) 1 0 + n ≡ 0 → answer ≢ Refused FileFault
-names-none answer n none = λ e.
-    let one : cond (is_file_fault answer) 1 0 ≡ 1 = ap (λ (a : Answer). cond (is_file_fault a) 1 0) e in
-    absurd (omega (arith, none, one))
+count-first : (answer : Answer) (answers : List Answer) → count_by is_file_fault (answer ∷ answers) ≡ cond (is_file_fault answer) 1 0 + count_by is_file_fault answers
+count-first answer answers = sum_by-cons (λ a. cond (is_file_fault a) 1 0) answer answers
 
-rest-none : (answer : Answer) (n : ℕ) → cond (is_file_fault answer) 1 0 + n ≡ 0 → n ≡ 0
+names-none : (answer : Answer) (n : ℕ) → ◌≡◌ {A = ℕ} (cond (is_file_fault answer) 1 0 + n) 0 → answer ≢ Refused FileFault
+names-none answer n none = λ e.
+    let P : Answer → Type 0 = λ a. ◌≡◌ {A = ℕ} (cond (is_file_fault a) 1 0 + n) 0 in
+    absurd (omega (arith, subst P e none))
+
+rest-none : (answer : Answer) (n : ℕ) → ◌≡◌ {A = ℕ} (cond (is_file_fault answer) 1 0 + n) 0 → n ≡ 0
 rest-none answer n none = omega (arith, none)
 
 -- lines have one list of answers
@@ -45,10 +49,10 @@ one-run files loaded [] (p ∷ a) b x y h k m n = absurd h
 one-run files loaded (line ∷ lines) [] b x y h k m n = absurd h
 one-run files loaded (line ∷ lines) (p ∷ a) [] x y h k m n = absurd k
 one-run files loaded (line ∷ lines) (p ∷ a) (q ∷ b) x y (v, may, more) (w, can, rest) m n =
-    let step = one-step files loaded line p q v w may can (names-none p (count_by is_file_fault a) m) (names-none q (count_by is_file_fault b) n) in
+    let step = one-step files loaded line p q v w may can (names-none p (count_by is_file_fault a) (sym (count-first p a) ∙ m)) (names-none q (count_by is_file_fault b) (sym (count-first q b) ∙ n)) in
     let P : List Kernel → Type 0 = λ l. RunsTo (Some files) l lines a x in
     let next = ap (λ (s : Answer × List Kernel). s.1) step in
-    let answers = one-run files w lines a b x y (subst P next more) rest (rest-none p (count_by is_file_fault a) m) (rest-none q (count_by is_file_fault b) n) in
+    let answers = one-run files w lines a b x y (subst P next more) rest (rest-none p (count_by is_file_fault a) (sym (count-first p a) ∙ m)) (rest-none q (count_by is_file_fault b) (sym (count-first q b) ∙ n)) in
     let first = ap (λ (s : Answer × List Kernel). s.0) step in
     λ i. first i ∷ answers i
 
@@ -72,7 +76,7 @@ ok-no-fault loaded = λ e. cc
 refused-no-fault : (o : Outside) (files : Entries) (input : List ℕ) (cause : LineFault) → IsTold o files input → RoseBy (count_by is_file_fault (Refused cause ∷ [])) o.before.faults o.now.faults
     → ◌≢◌ {A = Result (List Kernel) LineFault} (Err cause) (Err FileFault)
 refused-no-fault o files input cause told h = λ e.
-    names-none (Refused cause) 0 (none-rose (count_by is_file_fault (Refused cause ∷ [])) o.before.faults o.now.faults told.no_fault told.not_last h)
+    names-none (Refused cause) 0 (sym (count-first (Refused cause) []) ∙ none-rose (count_by is_file_fault (Refused cause ∷ [])) o.before.faults o.now.faults told.no_fault told.not_last h)
     (ap Refused (err-same cause FileFault e))
 
 given-of : (o : Outside) (files : Entries) (setup other : List ℕ) (r : Result (List Kernel) LineFault) → o.files ≡ Some files → setup ≡ other → LoadGives o.files [] setup r
