@@ -6,6 +6,7 @@ pub mod LeapSecondsMachine
 pub mod LeapTable
 pub mod Line
 pub mod Load
+pub mod LoadMachine
 pub mod NumbersMachine
 pub mod Outcome
 pub mod Progress
