@@ -12,6 +12,7 @@ pub mod Outcome
 pub mod Progress
 pub mod ScanMachine
 pub mod Session
+pub mod SessionMachine
 pub mod Taken
 pub mod Texts
 pub mod UtcTime
