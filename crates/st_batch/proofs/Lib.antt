@@ -3,6 +3,7 @@ pub mod KernelLaws
 pub mod Numbers
 pub mod PairsLaws
 pub mod ScanLaws
+pub mod SessionLaws
 pub mod TableLaws
 pub mod Tests
 pub mod UtcFields
