@@ -8,6 +8,7 @@ pub mod OneOutput
 pub mod PairsLaws
 pub mod RunLaws
 pub mod ScanLaws
+pub mod SessionLaws
 pub mod TableLaws
 pub mod Tests
 pub mod Told

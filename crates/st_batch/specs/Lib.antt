@@ -6,11 +6,13 @@ pub mod LeapSecondsMachine
 pub mod LeapTable
 pub mod Line
 pub mod Load
+pub mod LoadMachine
 pub mod NumbersMachine
 pub mod Outcome
 pub mod Progress
 pub mod ScanMachine
 pub mod Session
+pub mod SessionMachine
 pub mod Taken
 pub mod Texts
 pub mod UtcTime

@@ -1,10 +1,10 @@
 //! Loading a file by its name.
 
-ghost use Rattle.std.specs.Prelude.{◌≡◌, ◌≤◌, true, false, length, Ok, IfOk, IfErr, OnOk, OnErr, IsErrOf};
+ghost use Rattle.std.specs.Prelude.{◌≡◌, ◌≤◌, true, false, length, Ok, IfOk, IfErr, OnOk, OnErr};
 ghost use Rattle.st_outside.specs.Causes.{Rose, RoseBeyond};
-ghost use Rattle.st_outside.specs.Entries.{IsAbsent};
 ghost use Rattle.st_batch.specs.Causes.{IsSetupCaused};
-ghost use Rattle.st_batch.specs.Load.{HasFile, HasLongFile, IsRest, IsLongRest, LoadGives, LoadRefuses};
+ghost use Rattle.st_batch.specs.Load.{HasFile, IsRest, LoadGives, LoadRefuses};
+ghost use Rattle.st_batch.specs.LoadMachine.{BytesLoad, BytesRefuse, ReadRefuses, RestRefuses, refusal_of_load, refusal_of_text};
 
 use crate::fault::LineFault;
 use st_kernel_text::{TextFault, read_kernel};
@@ -37,7 +37,16 @@ pub fn load_file<F: Files>(
     ensures faults_later { F.faults files.old ≤ F.faults files.new }
 {
     let bytes = read_file(alloc, name, files)?;
-    let assignments = match read_kernel(alloc, bytes.as_slice()) {
+    load_bytes(alloc, pool, name, bytes.as_slice())
+}
+
+/// Loads the bytes of a file behind all kernels of the pool, under this name.
+fn load_bytes(alloc: Global, pool: &mut Pool, name: &[u8], bytes: &[u8]) -> Result<(), LineFault>
+    ensures ok { OnOk result (BytesLoad bytes.now pool.old name.now pool.new) }
+    ensures err { IfErr result (BytesRefuse bytes.now pool.old) }
+    ensures refused { OnErr result (pool.new ≡ pool.old) }
+{
+    let assignments = match read_kernel(alloc, bytes) {
         Ok(assignments) => assignments,
         Err(fault) => return Err(refused_text(fault)),
     };
@@ -48,7 +57,9 @@ pub fn load_file<F: Files>(
 }
 
 /// The refusal of a file that is no kernel.
-fn refused_text(fault: TextFault) -> LineFault {
+fn refused_text(fault: TextFault) -> LineFault
+    ensures { result ≡ refusal_of_text fault }
+{
     match fault {
         TextFault::At { line, cause } => LineFault::KernelText { line, cause },
         TextFault::OutOfMemory => LineFault::OutOfMemory,
@@ -56,7 +67,9 @@ fn refused_text(fault: TextFault) -> LineFault {
 }
 
 /// The refusal of a kernel that the pool doesn't take.
-fn refused_load(fault: LoadFault) -> LineFault {
+fn refused_load(fault: LoadFault) -> LineFault
+    ensures { result ≡ refusal_of_load fault }
+{
     match fault {
         LoadFault::TooManyKernels => LineFault::TooManyKernels,
         LoadFault::TooManyValues => LineFault::TooManyValues,
@@ -68,14 +81,13 @@ fn refused_load(fault: LoadFault) -> LineFault {
 pub fn read_file<F: Files>(alloc: Global, name: &[u8], files: &mut F) -> Result<Vec<u8>, LineFault>
     ensures ok { IfOk result (λ bytes. HasFile (F.map files.old) name.now bytes.items) }
     ensures few { IfOk result (λ bytes. length bytes.items ≤ MAX_FILE) }
-    ensures absent { IsErrOf result LineFault.NoFile → IsAbsent (F.map files.old) name.now }
-    ensures long { IsErrOf result LineFault.FileTooLong → HasLongFile (F.map files.old) name.now }
+    ensures err { IfErr result (ReadRefuses (F.map files.old) name.now) }
+    ensures cause { IfErr result (λ fault. IsSetupCaused fault (Rose (F.misses files.old) (F.misses files.new))
+        (Rose (F.faults files.old) (F.faults files.new)) (RoseBeyond MAX_FILE (F.taken files.old) (F.taken files.new))) }
     ensures closed { F.opened files.new ≡ false }
     ensures map { F.map files.new ≡ F.map files.old }
-    ensures no_file { IsErrOf result LineFault.NoFile → Rose (F.misses files.old) (F.misses files.new) }
-    ensures file_fault { IsErrOf result LineFault.FileFault → Rose (F.faults files.old) (F.faults files.new) }
-    ensures too_long { IsErrOf result LineFault.FileTooLong
-        → RoseBeyond MAX_FILE (F.taken files.old) (F.taken files.new) }
+    ensures misses_later { F.misses files.old ≤ F.misses files.new }
+    ensures faults_later { F.faults files.old ≤ F.faults files.new }
 {
     if let Err(fault) = files.open(name) {
         return Err(match fault {
@@ -94,11 +106,9 @@ fn read_open<F: Files>(alloc: Global, files: &mut F) -> Result<Vec<u8>, LineFaul
     requires { F.opened files.old ≡ true }
     ensures ok { IfOk result (λ bytes. IsRest (F.left files.old) bytes.items) }
     ensures few { IfOk result (λ bytes. length bytes.items ≤ MAX_FILE) }
-    ensures long { IsErrOf result LineFault.FileTooLong → IsLongRest (F.left files.old) MAX_FILE }
-    ensures found { IsErrOf result LineFault.NoFile → ⊥ }
-    ensures file_fault { IsErrOf result LineFault.FileFault → Rose (F.faults files.old) (F.faults files.new) }
-    ensures too_long { IsErrOf result LineFault.FileTooLong
-        → RoseBeyond MAX_FILE (F.taken files.old) (F.taken files.new) }
+    ensures err { IfErr result (RestRefuses (F.left files.old)) }
+    ensures cause { IfErr result (λ fault. IsSetupCaused fault ⊥ (Rose (F.faults files.old) (F.faults files.new))
+        (RoseBeyond MAX_FILE (F.taken files.old) (F.taken files.new))) }
     ensures map { F.map files.new ≡ F.map files.old }
     ensures misses { F.misses files.new ≡ F.misses files.old }
     ensures later { F.faults files.old ≤ F.faults files.new }

@@ -8,6 +8,7 @@ ghost use Rattle.st_batch.specs.Commands.{begins_command};
 ghost use Rattle.st_batch.specs.Load.{LoadGives, LoadRefuses};
 ghost use Rattle.st_batch.specs.Outcome.{is_refused};
 ghost use Rattle.st_batch.specs.Session.{MayAnswer};
+ghost use Rattle.st_batch.specs.SessionMachine.{ClearAnswers, CommandAnswers, LoadAnswers, NamesFault, TimeLineGives, UnloadAnswers};
 
 use crate::answer::{Answer, said};
 use crate::command::name_behind;
@@ -105,9 +106,10 @@ impl Session {
         ensures misses_later { F.misses files.old ≤ F.misses files.new }
         ensures faults_later { F.faults files.old ≤ F.faults files.new }
     {
-        match trim(line) {
-            [b'$', ..] => self.command_line(line, files),
-            text => self.time_line(line, text),
+        if is_command(trim(line)) {
+            self.command_line(line, files)
+        } else {
+            self.time_line(line)
         }
     }
 
@@ -130,53 +132,142 @@ impl Session {
         ensures misses_later { F.misses files.old ≤ F.misses files.new }
         ensures faults_later { F.faults files.old ≤ F.faults files.new }
     {
-        if line.len() > MAX_LINE {
-            return Ok(Answer::Refused(LineFault::LineTooLong));
-        }
-        let text = trim(line);
-        if let Some(name) = name_behind(b"$load", text) {
-            return self.load(name, files);
-        }
-        if let Some(name) = name_behind(b"$unload", text) {
-            return self.unload(name);
-        }
-        if text == b"$clear".as_slice() {
-            return self.clear();
-        }
-        Ok(Answer::Refused(LineFault::BadCommand))
+        answer_command_line(self.alloc, &mut self.pool, line, files)
     }
 
-    /// The answer of a line that is this text between blanks, and no command.
-    fn time_line(&self, line: &[u8], text: &[u8]) -> Result<Answer, OutOfMemory> {
-        if line.len() > MAX_LINE {
-            return Ok(Answer::Refused(LineFault::LineTooLong));
-        }
-        answer_time(self.alloc, &self.pool, text)
+    /// The answer of a line that is no command.
+    fn time_line(&self, line: &[u8]) -> Result<Answer, OutOfMemory>
+        requires { begins_command (trimmed line.now) ≡ false }
+        ensures { IfOk result (TimeLineGives self.now line.now) }
+    {
+        answer_time_line(self.alloc, &self.pool, line)
     }
+}
 
-    /// Loads the file of this name.
-    fn load<F: Files>(&mut self, name: &[u8], files: &mut F) -> Result<Answer, OutOfMemory> {
-        let answer = said(self.alloc, b"loaded")?;
-        match load_file(self.alloc, &mut self.pool, name, files) {
-            Ok(()) => Ok(answer),
-            Err(LineFault::OutOfMemory) => Err(AllocError),
-            Err(fault) => Ok(Answer::Refused(fault)),
-        }
-    }
+/// Whether a text begins with `$`.
+fn is_command(text: &[u8]) -> bool
+    ensures { result ≡ begins_command text.now }
+{
+    matches!(text, [b'$', ..])
+}
 
-    /// Unloads the last loaded kernel of this name.
-    fn unload(&mut self, name: &[u8]) -> Result<Answer, OutOfMemory> {
-        let answer = said(self.alloc, b"unloaded")?;
-        match self.pool.unload(name) {
-            Ok(()) => Ok(answer),
-            Err(NotLoaded) => Ok(Answer::Refused(LineFault::NotLoaded)),
-        }
+/// The answer of a line that is no command, by the loaded kernels.
+fn answer_time_line(alloc: Global, pool: &Pool, line: &[u8]) -> Result<Answer, OutOfMemory>
+    requires { begins_command (trimmed line.now) ≡ false }
+    ensures { IfOk result (TimeLineGives pool.now line.now) }
+{
+    if line.len() > MAX_LINE {
+        return Ok(Answer::Refused(LineFault::LineTooLong));
     }
+    answer_time(alloc, pool, trim(line))
+}
 
-    /// Unloads all kernels.
-    fn clear(&mut self) -> Result<Answer, OutOfMemory> {
-        let answer = said(self.alloc, b"cleared")?;
-        self.pool.clear();
-        Ok(answer)
+/// The answer of a line that begins with `$`, and what it does to the loaded kernels.
+fn answer_command_line<F: Files>(
+    alloc: Global,
+    pool: &mut Pool,
+    line: &[u8],
+    files: &mut F,
+) -> Result<Answer, OutOfMemory>
+    requires { begins_command (trimmed line.now) ≡ true }
+    ensures answered { IfOk result (λ answer. MayAnswer (F.map files.old) pool.old line.now answer pool.new) }
+    ensures refused { IfOk result (λ answer. is_refused answer ≡ true → pool.new ≡ pool.old) }
+    ensures err { OnErr result (pool.new ≡ pool.old) }
+    ensures cause { IfOk result (λ answer. IsAnswerCaused answer (Rose (F.misses files.old) (F.misses files.new))
+        (Rose (F.faults files.old) (F.faults files.new)) (RoseBeyond MAX_FILE (F.taken files.old) (F.taken files.new))) }
+    ensures closed { F.opened files.old ≡ false → F.opened files.new ≡ false }
+    ensures map { F.map files.new ≡ F.map files.old }
+    ensures misses_later { F.misses files.old ≤ F.misses files.new }
+    ensures faults_later { F.faults files.old ≤ F.faults files.new }
+{
+    if line.len() > MAX_LINE {
+        return Ok(Answer::Refused(LineFault::LineTooLong));
     }
+    answer_command(alloc, pool, trim(line), files)
+}
+
+/// The answer of a text that begins with `$`, and what it does to the loaded kernels.
+fn answer_command<F: Files>(
+    alloc: Global,
+    pool: &mut Pool,
+    text: &[u8],
+    files: &mut F,
+) -> Result<Answer, OutOfMemory>
+    requires { begins_command text.now ≡ true }
+    ensures answered { IfOk result (λ answer. CommandAnswers (F.map files.old) pool.old text.now answer pool.new) }
+    ensures refused { IfOk result (λ answer. is_refused answer ≡ true → pool.new ≡ pool.old) }
+    ensures err { OnErr result (pool.new ≡ pool.old) }
+    ensures cause { IfOk result (λ answer. IsAnswerCaused answer (Rose (F.misses files.old) (F.misses files.new))
+        (Rose (F.faults files.old) (F.faults files.new)) (RoseBeyond MAX_FILE (F.taken files.old) (F.taken files.new))) }
+    ensures closed { F.opened files.old ≡ false → F.opened files.new ≡ false }
+    ensures map { F.map files.new ≡ F.map files.old }
+    ensures misses_later { F.misses files.old ≤ F.misses files.new }
+    ensures faults_later { F.faults files.old ≤ F.faults files.new }
+{
+    if let Some(name) = name_behind(b"$load", text) {
+        return load_named(alloc, pool, name, files);
+    }
+    if let Some(name) = name_behind(b"$unload", text) {
+        return unload_named(alloc, pool, name);
+    }
+    if text == b"$clear".as_slice() {
+        return clear_all(alloc, pool);
+    }
+    Ok(Answer::Refused(LineFault::BadCommand))
+}
+
+/// Loads the file of this name.
+fn load_named<F: Files>(
+    alloc: Global,
+    pool: &mut Pool,
+    name: &[u8],
+    files: &mut F,
+) -> Result<Answer, OutOfMemory>
+    ensures answered { IfOk result (λ answer. LoadAnswers (F.map files.old) pool.old name.now answer pool.new) }
+    ensures refused { IfOk result (λ answer. is_refused answer ≡ true → pool.new ≡ pool.old) }
+    ensures err { OnErr result (pool.new ≡ pool.old) }
+    ensures cause { IfOk result (λ answer. IsAnswerCaused answer (Rose (F.misses files.old) (F.misses files.new))
+        (Rose (F.faults files.old) (F.faults files.new)) (RoseBeyond MAX_FILE (F.taken files.old) (F.taken files.new))) }
+    ensures closed { F.opened files.old ≡ false → F.opened files.new ≡ false }
+    ensures map { F.map files.new ≡ F.map files.old }
+    ensures misses_later { F.misses files.old ≤ F.misses files.new }
+    ensures faults_later { F.faults files.old ≤ F.faults files.new }
+{
+    let answer = said(alloc, b"loaded")?;
+    match load_file(alloc, pool, name, files) {
+        Ok(()) => Ok(answer),
+        Err(fault) => refused(fault),
+    }
+}
+
+/// The answer that a line is refused so. Want of memory refuses no line.
+fn refused(fault: LineFault) -> Result<Answer, OutOfMemory>
+    ensures { IfOk result (NamesFault fault) }
+{
+    match fault {
+        LineFault::OutOfMemory => Err(AllocError),
+        fault => Ok(Answer::Refused(fault)),
+    }
+}
+
+/// Unloads the last loaded kernel of this name.
+fn unload_named(alloc: Global, pool: &mut Pool, name: &[u8]) -> Result<Answer, OutOfMemory>
+    ensures answered { IfOk result (λ answer. UnloadAnswers pool.old name.now answer pool.new) }
+    ensures err { OnErr result (pool.new ≡ pool.old) }
+{
+    let answer = said(alloc, b"unloaded")?;
+    match pool.unload(name) {
+        Ok(()) => Ok(answer),
+        Err(NotLoaded) => Ok(Answer::Refused(LineFault::NotLoaded)),
+    }
+}
+
+/// Unloads all kernels.
+fn clear_all(alloc: Global, pool: &mut Pool) -> Result<Answer, OutOfMemory>
+    ensures answered { IfOk result (λ answer. ClearAnswers answer pool.new) }
+    ensures err { OnErr result (pool.new ≡ pool.old) }
+{
+    let answer = said(alloc, b"cleared")?;
+    pool.clear();
+    Ok(answer)
 }
