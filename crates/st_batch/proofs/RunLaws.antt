@@ -325,3 +325,39 @@ reads-all words job ReadFault one h = absurd h
 reads-all words job WriteFault one h = absurd h
 reads-all words job OutOfMemory one h = absurd h
 reads-all words job InputTooLong one h = absurd h
+
+-- a run whose setup was refused ends so
+abbrev pub IsOfSetup : Status → Type 0
+IsOfSetup (BadSetup cause) = Unit {0}
+IsOfSetup WriteFault = Unit {0}
+IsOfSetup OutOfMemory = Unit {0}
+IsOfSetup status = ⊥
+
+pub delivered-of-setup : (output : List ℕ) (fault : LineFault) (status : Status) (taken after : Option (List ℕ)) → Delivers output (BadSetup fault) taken after status → IsOfSetup status
+delivered-of-setup output fault status taken after (inl (appends, same)) =
+    let P : Status → Type 0 = λ s. IsOfSetup s in
+    subst P (sym same) tt
+delivered-of-setup output fault status taken after (inr (took, cut)) = cut-of-setup status cut
+  where
+    cut-of-setup : (status : Status) → IsCut status → IsOfSetup status
+    cut-of-setup Done h = absurd h
+    cut-of-setup SomeRefused h = absurd h
+    cut-of-setup (BadWords w) h = absurd h
+    cut-of-setup (BadSetup c) h = absurd h
+    cut-of-setup ReadFault h = absurd h
+    cut-of-setup WriteFault h = tt
+    cut-of-setup OutOfMemory h = tt
+    cut-of-setup InputTooLong h = absurd h
+
+pub not-read : (status other : Status) → IsOfSetup status → (IsOfSetup other → ⊥) → status ≡ other → ⊥
+not-read status other h not e = not (subst IsOfSetup e h)
+
+pub not-whole : (status : Status) → IsOfSetup status → IsWhole status → ⊥
+not-whole Done h w = h
+not-whole SomeRefused h w = h
+not-whole (BadWords f) h w = w
+not-whole (BadSetup c) h w = w
+not-whole ReadFault h w = w
+not-whole WriteFault h w = w
+not-whole OutOfMemory h w = w
+not-whole InputTooLong h w = w

@@ -113,6 +113,7 @@ fn refuse_setup<O: Sink>(alloc: Global, fault: LineFault, out: &mut O) -> Status
     requires { fault ≢ LineFault.OutOfMemory }
     ensures delivers { Delivers (codes "bad setup " ++ (texts.refusal_text fault ++ (10 ∷ []))) (BadSetup fault)
         (O.taken out.old) (O.taken out.new) result }
+    ensures not_memory { fault ≢ LineFault.OutOfMemory }
     ensures write_fault { result ≡ Status.WriteFault → Rose (O.faults out.old) (O.faults out.new) }
 {
     let mut line = Vec::new(alloc);
