@@ -10,3 +10,4 @@ pub mod Told
 pub mod UtcFields
 pub mod UtcLaws
 pub mod VariableLaws
+pub mod WordsLaws
