@@ -1,6 +1,6 @@
 //! The words of the program.
 
-ghost use Rattle.std.specs.Prelude.{◌≡◌, ◌&&◌, nat_le, MatchOption, IfOk, IsErrOf, map, string_bytes, option_map, bytes_eq, codes, length, Some, None};
+ghost use Rattle.std.specs.Prelude.{◌≡◌, ◌&&◌, IfOk, IsErrOf, map, string_bytes, option_map, option_copied};
 ghost use Rattle.st_batch.specs.Words.{AskFor, AskForNone};
 ghost use Rattle.st_batch.specs.WordsMachine as machine;
 
@@ -22,7 +22,10 @@ pub fn read_words(alloc: Global, words: &[String]) -> Result<Job, WordFault>
 }
 
 /// The job of a setup file's name and of a time, where one is given.
-fn make_job(alloc: Global, setup: &[u8], time: Option<&[u8]>) -> Result<Job, OutOfMemory> {
+fn make_job(alloc: Global, setup: &[u8], time: Option<&[u8]>) -> Result<Job, OutOfMemory>
+    ensures setup { IfOk result (λ job. job.setup ≡ setup.now) }
+    ensures work { IfOk result (λ job. job.work ≡ machine.work_of (option_copied time.entry)) }
+{
     let setup = KText::from_slice(alloc, setup)?;
     let work = match time {
         Some(text) => Work::Time(KText::from_slice(alloc, text)?),
@@ -32,18 +35,24 @@ fn make_job(alloc: Global, setup: &[u8], time: Option<&[u8]>) -> Result<Job, Out
 }
 
 /// The setup file's name and the time, where one is given.
-fn asked(words: &[String]) -> Option<(&[u8], Option<&[u8]>)> {
+fn asked(words: &[String]) -> Option<(&[u8], Option<&[u8]>)>
+    ensures { option_map (λ p. (p.0.now, option_copied p.1)) result ≡ machine.asked_of (map string_bytes words.now) }
+{
     match words {
-        [setup, name, from, source, to, target, batch]
-            if are_first(setup, name, from, source, to, target) && batch.as_str() == "-batch" =>
-            {
+        [setup, name, from, source, to, target, batch] => {
+            if are_first(setup, name, from, source, to, target) && batch.as_str() == "-batch" {
                 Some((name.as_bytes(), None))
+            } else {
+                None
             }
-        [setup, name, from, source, to, target, time, text]
-            if are_first(setup, name, from, source, to, target) && time.as_str() == "-time" =>
-            {
+        }
+        [setup, name, from, source, to, target, time, text] => {
+            if are_first(setup, name, from, source, to, target) && time.as_str() == "-time" {
                 Some((name.as_bytes(), Some(text.as_bytes())))
+            } else {
+                None
             }
+        }
         _ => None,
     }
 }
@@ -56,7 +65,10 @@ fn are_first(
     source: &String,
     to: &String,
     target: &String,
-) -> bool {
+) -> bool
+    ensures { result ≡ ((machine.are_options (string_bytes setup.now) (string_bytes from.now) (string_bytes to.now)
+        && machine.are_systems (string_bytes source.now) (string_bytes target.now)) && machine.is_name (string_bytes name.now)) }
+{
     are_options(setup, from, to) && are_systems(source, target) && is_name(name)
 }
 
