@@ -1,9 +1,9 @@
 //! The session: the loaded kernels, and how they answer lines.
 
-ghost use Rattle.std.specs.Prelude.{◌≡◌, ◌≤◌, [], true, false, length, Ok, Err, IfOk, IfErr, OnErr};
+ghost use Rattle.std.specs.Prelude.{◌≡◌, ◌≤◌, [], true, false, Ok, IfOk, IfErr, OnErr};
 ghost use Rattle.st_outside.specs.Causes.{Rose, RoseBeyond};
 ghost use Rattle.st_text.specs.Lines.{trimmed};
-ghost use Rattle.st_batch.specs.Causes.{AreCounted, IsAnswerCaused, IsSetupCaused};
+ghost use Rattle.st_batch.specs.Causes.{IsAnswerCaused, IsSetupCaused};
 ghost use Rattle.st_batch.specs.Commands.{begins_command};
 ghost use Rattle.st_batch.specs.Load.{LoadGives, LoadRefuses};
 ghost use Rattle.st_batch.specs.Outcome.{is_refused};
