@@ -22,7 +22,7 @@ use Rattle.st_batch.specs.Outcome.{Outside, Answered, BeginsAnswers, BeginsAllow
 use Rattle.st_batch.specs.Progress.{AllAnswered, SomeAnswered, LinesEnd, IsOfLines, IsWhole}
 use Rattle.st_batch.specs.Texts.{refusal_text}
 use Rattle.st_batch.specs.Words.{AskFor, AskForNone, AreLines}
-use Rattle.st_batch.specs.Written.{Delivers, HasNoInput, IsCut, IsOfJob}
+use Rattle.st_batch.specs.Written.{Delivers, HasNoInput, IsCut, IsOfJob, WordsFit}
 use Rattle.st_batch.proofs.OneLoad.{some-load, IsSound}
 
 -- what is told of the output carries over from one word on its bytes to another
@@ -361,3 +361,14 @@ not-whole ReadFault h w = w
 not-whole WriteFault h w = w
 not-whole OutOfMemory h w = w
 not-whole InputTooLong h w = w
+
+-- words that ask for a job aren't refused
+pub job-fits : (words : List (List ℕ)) (job : Job) (status : Status) → AskFor words job → IsOfJob status → WordsFit status (AskForNone words)
+job-fits words job Done asked h = λ none. none job asked
+job-fits words job SomeRefused asked h = λ none. none job asked
+job-fits words job (BadWords w) asked h = absurd h
+job-fits words job (BadSetup c) asked h = λ none. none job asked
+job-fits words job ReadFault asked h = λ none. none job asked
+job-fits words job WriteFault asked h = tt
+job-fits words job OutOfMemory asked h = tt
+job-fits words job InputTooLong asked h = λ none. none job asked
