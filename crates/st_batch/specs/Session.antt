@@ -51,7 +51,7 @@ MayRefuse files loaded text cause = (name : List ℕ) × IsLoad text name × Loa
 -- A command that is carried out says so: the loaded list after it is another.
 abbrev pub CarriesOut : Option Entries → List Kernel → List ℕ → List ℕ → List Kernel → Type 0
 CarriesOut files loaded text said after =
-      ((name : List ℕ) × IsLoad text name × LoadGives files loaded name (Ok after) × (said ≡ codes "loaded"))
+    ((name : List ℕ) × IsLoad text name × LoadGives files loaded name (Ok after) × (said ≡ codes "loaded"))
     ⊎ (((name : List ℕ) × IsUnload text name × (is_loaded name loaded ≡ true) × (after ≡ without_last name loaded) × (said ≡ codes "unloaded"))
     ⊎ (IsClear text × (after ≡ []) × (said ≡ codes "cleared")))
 

@@ -33,10 +33,10 @@ pub fn answer_lines<F: Files, I: Source, O: Sink>(
 ) -> Status
     ensures told { WhereTold (O.taken out.old) (O.taken out.new) (λ bytes. LinesEnd
         (record {
-            files = F.map files.old;
-            input = I.left input.old;
-            before = record { misses = F.misses files.old; faults = F.faults files.old };
-            now = record { misses = F.misses files.new; faults = F.faults files.new }
+          files = F.map files.old;
+          input = I.left input.old;
+          before = record { misses = F.misses files.old; faults = F.faults files.old };
+          now = record { misses = F.misses files.new; faults = F.faults files.new };
         }) work.now session result bytes) }
     ensures of_lines { IsOfLines result }
     ensures write_fault { result ≡ Status.WriteFault → Rose (O.faults out.old) (O.faults out.new) }
@@ -111,7 +111,14 @@ fn answer_input<F: Files, I: Source, O: Sink>(
             return Status::InputTooLong;
         }
         room -= count;
-        if let Err(fault) = answer_piece(alloc, &mut answering, &mut begun, &piece[..count], files, out) {
+        if let Err(fault) = answer_piece(
+            alloc,
+            &mut answering,
+            &mut begun,
+            &piece[..count],
+            files,
+            out,
+        ) {
             return stopped(fault);
         }
     }

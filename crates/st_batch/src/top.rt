@@ -37,10 +37,10 @@ pub fn run<F: Files, I: Source, O: Sink>(
 ) -> Status
     ensures told { WhereTold (O.taken out.old) (O.taken out.new) (Outcome
         (record {
-            files = F.map files.old;
-            input = I.left input.old;
-            before = record { misses = F.misses files.old; faults = F.faults files.old };
-            now = record { misses = F.misses files.new; faults = F.faults files.new }
+          files = F.map files.old;
+          input = I.left input.old;
+          before = record { misses = F.misses files.old; faults = F.faults files.old };
+          now = record { misses = F.misses files.new; faults = F.faults files.new };
         }) (map string_bytes words.now) result) }
 
     // The words are refused exactly where they ask for no conversion, unless the line that says so was cut off.
@@ -83,10 +83,10 @@ fn run_job<F: Files, I: Source, O: Sink>(
 ) -> Status
     ensures told { (words : List (List ℕ)) → AskFor words job.now → WhereTold (O.taken out.old) (O.taken out.new) (Outcome
         (record {
-            files = F.map files.old;
-            input = I.left input.old;
-            before = record { misses = F.misses files.old; faults = F.faults files.old };
-            now = record { misses = F.misses files.new; faults = F.faults files.new }
+          files = F.map files.old;
+          input = I.left input.old;
+          before = record { misses = F.misses files.old; faults = F.faults files.old };
+          now = record { misses = F.misses files.new; faults = F.faults files.new };
         }) words result) }
     ensures of_job { IsOfJob result }
     ensures causes { IsStatusCaused result (Rose (F.misses files.old) (F.misses files.new))

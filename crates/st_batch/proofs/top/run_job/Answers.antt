@@ -17,7 +17,7 @@ returns-in-Ok g c =
     let P : List ℕ → Type 0 = λ name. LoadGives (g.F.Files.map c.args.files.now) [] name (Ok c.in-Ok.session) in
     record {
       told = λ words asked. lines-outcome (g.F.Files.map c.args.files.now) (g.F.Files.map c.begin.new.files) (g.I.Source.left c.args.input.now) (g.O.Sink.taken c.args.out.now) (g.O.Sink.taken c.answer_lines.new.out)
-        before mid now words c.args.job.now c.in-Ok.session status c.in-Ok.ensures.map c.in-Ok.ensures.misses_later c.in-Ok.ensures.faults_later asked (subst P c.as_slice.ensures c.in-Ok.ensures.ok) c.answer_lines.ensures.told;
+          before mid now words c.args.job.now c.in-Ok.session status c.in-Ok.ensures.map c.in-Ok.ensures.misses_later c.in-Ok.ensures.faults_later asked (subst P c.as_slice.ensures c.in-Ok.ensures.ok) c.answer_lines.ensures.told;
       of_job = lines-of-job status of;
       causes = lines-caused status (Rose before.misses now.misses) (Rose before.faults now.faults) (RoseBeyond 16_777_216 (g.F.Files.taken c.args.files.now) (g.F.Files.taken c.answer_lines.new.files)) of;
       write_fault = c.answer_lines.ensures.write_fault;
