@@ -1,5 +1,8 @@
 //! The files of the worked rows.
 
+use std::alloc::Global;
+use std::test::Fail;
+
 /// `naif.tls`: a leapseconds kernel with the usual values.
 pub const NAIF: &[u8] = b"\
     KPL/LSK\n\
@@ -38,3 +41,29 @@ pub const NAIF: &[u8] = b"\
     \x20                    36, @2015-JUL-1\n\
     \x20                    37, @2017-JAN-1 )\n\
     \\begintext\n";
+
+/// The last pair of `naif.tls` and what stands behind it.
+const LAST_PAIR: &[u8] = b"\n                     37, @2017-JAN-1 )\n\\begintext\n";
+
+/// `short.tls`: `naif.tls` without the pair of 37.
+pub fn short(alloc: Global) -> Result<Vec<u8>, Fail> {
+    let front = NAIF.strip_suffix(LAST_PAIR).unwrap_or(NAIF);
+    let mut file = Vec::from_slice(alloc, front)?;
+    file.extend_from_slice(b" )\n\\begintext\n")?;
+    Ok(file)
+}
+
+/// `values.ker`: a string, and two numbers.
+pub const VALUES: &[u8] = b"\\begindata\nX = 'it''s'\nY = -1.5D+2\nZ += @1972-JAN-1\n";
+
+/// `more.tls`: one more pair.
+pub const MORE: &[u8] = b"\\begindata\nDELTET/DELTA_AT += ( 38, @2030-JAN-1 )\n";
+
+/// `mixed.ker`: a list of both kinds.
+pub const MIXED: &[u8] = b"\\begindata\nX = ( 1, 'a' )\n";
+
+/// `cut.ker`: a list that does not end.
+pub const CUT: &[u8] = b"\\begindata\nX = ( 1,\n";
+
+/// `plain.ker`: a file of commentary alone.
+pub const PLAIN: &[u8] = b"KPL/LSK\nNothing here.\n";

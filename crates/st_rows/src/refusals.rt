@@ -36,7 +36,7 @@ fn refused_times(rt: HostRuntime) -> Result<(), Fail> {
     Ok(())
 }
 
-/// Setup files that are kernels without a table of leap seconds.
+/// Setup files that are kernels and give no table of leap seconds.
 const NO_TABLES: [&str; 11] = [
     "",
     "\\begintext\nDELTET/DELTA_AT = ( 10, @1972-JAN-1 )\n",
@@ -68,10 +68,10 @@ fn answered(rt: &HostRuntime, setup: &[u8]) -> Result<(Status, Vec<u8>), Fail> {
 fn setups_without_a_table(rt: HostRuntime) -> Result<(), Fail> {
     for setup in NO_TABLES {
         let (status, output) = answered(&rt, setup.as_bytes())?;
-        assert_eq!(rt; status, Status::BadSetup(LineFault::NotBuilt), "{setup}");
+        assert_eq!(rt; status, Status::SomeRefused, "{setup}");
         assert_eq!(rt;
             output.as_slice(),
-            b"bad setup NOT_BUILT\n".as_slice(),
+            b"refused NOT_BUILT\n".as_slice(),
             "{setup}"
         );
     }

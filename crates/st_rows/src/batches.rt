@@ -1,0 +1,213 @@
+//! Batches from UTC to TAI with the setup `naif.tls`: the lines of the input, and the whole output.
+
+use crate::session::{batch, folder};
+use st_batch::{Status, run};
+use st_outside::{MemFiles, MemSink, MemSource, SafeFiles, SafeSink, SafeSource};
+use std::test::Fail;
+
+/// A name, the input, the status and the output.
+const ROWS: [(&str, &str, Status, &str); 10] = [
+    ("no lines", "", Status::Done, ""),
+    (
+        "a leapseconds kernel for some time",
+        "2017-06-01T00:00:00\n$load short.tls\n2017-06-01T00:00:00\n$unload short.tls\n2017-06-01T00:00:00\n",
+        Status::Done,
+        "549547237.000000\nloaded\n549547236.000000\nunloaded\n549547237.000000\n",
+    ),
+    (
+        "a pair is added, set anew, and added again",
+        "$load more.tls\n2030-06-01T00:00:00\n$load short.tls\n2030-06-01T00:00:00\n$unload more.tls\n2030-06-01T00:00:00\n",
+        Status::Done,
+        "loaded\n959774438.000000\nloaded\n959774436.000000\nunloaded\n959774436.000000\n",
+    ),
+    (
+        "the last of a name goes first",
+        "$load more.tls\n$load short.tls\n$load more.tls\n2030-06-01T00:00:00\n$unload more.tls\n2030-06-01T00:00:00\n$unload short.tls\n2030-06-01T00:00:00\n",
+        Status::SomeRefused,
+        "loaded\nloaded\nloaded\nrefused NOT_BUILT\nunloaded\n959774436.000000\nunloaded\n959774438.000000\n",
+    ),
+    (
+        "a refused load changes nothing",
+        "2017-06-01T00:00:00\n$load mixed.ker\n2017-06-01T00:00:00\n$unload mixed.ker\n",
+        Status::SomeRefused,
+        "549547237.000000\nrefused KERNEL_TEXT 2 MIXED_KINDS\n549547237.000000\nrefused NOT_LOADED\n",
+    ),
+    (
+        "files without an assignment, and one that is cut",
+        "$load empty.ker\n$load plain.ker\n$load cut.ker\n$unload empty.ker\n$unload cut.ker\n",
+        Status::SomeRefused,
+        "loaded\nloaded\nrefused KERNEL_TEXT 2 UNCLOSED\nunloaded\nrefused NOT_LOADED\n",
+    ),
+    (
+        "names that are not there, and no commands",
+        "$load absent\n$unload absent\n$drop x\n$\n$load\n$load \n$LOAD naif.tls\n$ load naif.tls\n$clear now\n$loadnaif.tls\n",
+        Status::SomeRefused,
+        "refused NO_FILE\nrefused NOT_LOADED\nrefused BAD_COMMAND\nrefused BAD_COMMAND\nrefused BAD_COMMAND\nrefused BAD_COMMAND\nrefused BAD_COMMAND\nrefused BAD_COMMAND\nrefused BAD_COMMAND\nrefused BAD_COMMAND\n",
+    ),
+    (
+        "no table is left",
+        "$clear\n2017-06-01T00:00:00\nno time\n$load\t \tshort.tls\t\n 2017-06-01T00:00:00\t\nno time\n",
+        Status::SomeRefused,
+        "cleared\nrefused NOT_BUILT\nrefused NOT_BUILT\nloaded\n549547236.000000\nrefused BAD_TIME\n",
+    ),
+    (
+        "lines that end with CR and LF, an empty one, and a last one without an end",
+        "2017-06-01T00:00:00\r\n\r\n\n2000-01-01T12:00:00\r",
+        Status::SomeRefused,
+        "549547237.000000\nrefused BAD_TIME\nrefused BAD_TIME\n32.000000\n",
+    ),
+    (
+        "one CR is dropped",
+        "2000-01-01T12:00:00\r\r\n",
+        Status::SomeRefused,
+        "refused BAD_TIME\n",
+    ),
+];
+
+#[test]
+fn batches(rt: HostRuntime) -> Result<(), Fail> {
+    let alloc = rt.alloc();
+    let words = batch(alloc)?;
+    for (name, lines, wanted, output) in ROWS {
+        let mut kernels = SafeFiles::new(folder(alloc)?);
+        let mut input = SafeSource::new(Vec::from_slice(alloc, lines.as_bytes())?);
+        let mut out = SafeSink::new(alloc);
+        let status = run(alloc, words.as_slice(), &mut kernels, &mut input, &mut out);
+        assert_eq!(rt; status, wanted, "{name}");
+        assert_eq!(rt; out.bytes(), output.as_bytes(), "{name}");
+    }
+    Ok(())
+}
+
+/// The whole output for this input, and the status.
+fn answered(rt: &HostRuntime, lines: Vec<u8>) -> Result<(Status, Vec<u8>), Fail> {
+    let alloc = rt.alloc();
+    let words = batch(alloc)?;
+    let mut kernels = SafeFiles::new(folder(alloc)?);
+    let mut input = SafeSource::new(lines);
+    let mut out = SafeSink::new(alloc);
+    let status = run(alloc, words.as_slice(), &mut kernels, &mut input, &mut out);
+    Ok((status, Vec::from_slice(alloc, out.bytes())?))
+}
+
+/// A text, so many times.
+fn repeated(rt: &HostRuntime, text: &str, times: usize) -> Result<Vec<u8>, Fail> {
+    let mut lines = Vec::new(rt.alloc());
+    for _ in 0..times {
+        lines.extend_from_slice(text.as_bytes())?;
+    }
+    Ok(lines)
+}
+
+#[test]
+fn lines_longer_than_a_line_may_be(rt: HostRuntime) -> Result<(), Fail> {
+    for (count, refusal) in [(1000, "BAD_TIME"), (1001, "LINE_TOO_LONG")] {
+        for first in ["x", "$", " "] {
+            let mut line = repeated(&rt, first, 1)?;
+            line.extend_from_slice(repeated(&rt, "x", count - 1)?.as_slice())?;
+            line.extend_from_slice(b"\r\n")?;
+            let (status, output) = answered(&rt, line)?;
+            let command = first == "$" && count == 1000;
+            let wanted = if command { "BAD_COMMAND" } else { refusal };
+            assert_eq!(rt; status, Status::SomeRefused, "{first} {count}");
+            assert!(rt; output.as_slice().ends_with(b"\n"), "{first} {count}");
+            assert!(rt;
+                output.as_slice().starts_with(b"refused "),
+                "{first} {count}"
+            );
+            assert_eq!(rt; output.len(), wanted.len() + 9, "{first} {count}");
+        }
+    }
+    Ok(())
+}
+
+#[test]
+fn names_longer_than_a_name_may_be(rt: HostRuntime) -> Result<(), Fail> {
+    for (count, wanted) in [(255, "refused NO_FILE\n"), (256, "refused BAD_COMMAND\n")] {
+        let mut line = repeated(&rt, "$load ", 1)?;
+        line.extend_from_slice(repeated(&rt, "n", count)?.as_slice())?;
+        let (_, output) = answered(&rt, line)?;
+        assert_eq!(rt; output.as_slice(), wanted.as_bytes(), "{count}");
+    }
+    let mut line = repeated(&rt, "$load ", 1)?;
+    line.push(0xff)?;
+    let (_, output) = answered(&rt, line)?;
+    assert_eq!(rt; output.as_slice(), b"refused BAD_COMMAND\n".as_slice());
+    Ok(())
+}
+
+#[test]
+fn a_thousand_kernels(rt: HostRuntime) -> Result<(), Fail> {
+    let lines = repeated(&rt, "$load values.ker\n", 1001)?;
+    let mut wanted = repeated(&rt, "loaded\n", 999)?;
+    let refused = repeated(&rt, "refused TOO_MANY_KERNELS\n", 2)?;
+    wanted.extend_from_slice(refused.as_slice())?;
+    let (status, output) = answered(&rt, lines)?;
+    assert_eq!(rt; status, Status::SomeRefused);
+    assert_eq!(rt; output.as_slice(), wanted.as_slice());
+    Ok(())
+}
+
+#[test]
+fn lines_cut_by_the_reads(rt: HostRuntime) -> Result<(), Fail> {
+    // 84,000 bytes, of which a read gives at most 65,536.
+    let lines = repeated(&rt, "2017-06-01T00:00:00\r\n", 4000)?;
+    let wanted = repeated(&rt, "549547237.000000\n", 4000)?;
+    let (status, output) = answered(&rt, lines)?;
+    assert_eq!(rt; status, Status::Done);
+    assert_eq!(rt; output.as_slice(), wanted.as_slice());
+    Ok(())
+}
+
+/// How a batch ends over outsides whose listed calls fail: the call of the files, of the input and of the output, the
+/// status, and what was written. The setup makes the first three calls of the files, and `$load` the next ones.
+const FAULTS: [(u32, u32, u32, Status, &str); 7] = [
+    (0, 0, 0, Status::Done, "loaded\n549547236.000000\n"),
+    (
+        4,
+        0,
+        0,
+        Status::SomeRefused,
+        "refused FILE_FAULT\n549547237.000000\n",
+    ),
+    (
+        5,
+        0,
+        0,
+        Status::SomeRefused,
+        "refused FILE_FAULT\n549547237.000000\n",
+    ),
+    (
+        6,
+        0,
+        0,
+        Status::SomeRefused,
+        "refused FILE_FAULT\n549547237.000000\n",
+    ),
+    (0, 1, 0, Status::ReadFault, ""),
+    (0, 2, 0, Status::ReadFault, "loaded\n"),
+    (0, 0, 1, Status::WriteFault, ""),
+];
+
+#[test]
+fn faults_of_the_outside(rt: HostRuntime) -> Result<(), Fail> {
+    let alloc = rt.alloc();
+    let words = batch(alloc)?;
+    for (file_call, read_call, write_call, wanted, output) in FAULTS {
+        let lines = b"$load short.tls\n2017-06-01T00:00:00";
+        let mut kernels = MemFiles::new(folder(alloc)?, Vec::from_slice(alloc, &[file_call])?);
+        let mut input = MemSource::new(
+            Vec::from_slice(alloc, lines)?,
+            Vec::from_slice(alloc, &[read_call])?,
+        );
+        let mut out = MemSink::new(alloc, Vec::from_slice(alloc, &[write_call])?);
+        let status = run(alloc, words.as_slice(), &mut kernels, &mut input, &mut out);
+        assert_eq!(rt; status, wanted, "{file_call} {read_call} {write_call}");
+        assert_eq!(rt;
+            out.bytes(),
+            output.as_bytes(),
+            "{file_call} {read_call} {write_call}"
+        );
+    }
+    Ok(())
+}
