@@ -2,12 +2,11 @@
 use Rattle.std.specs.Prelude.{◌≡◌, ◌≢◌, ℕ, ◌≤◌, Bool, false, ◌==◌, IsTrue, IsUtf8, List, [], ◌∷◌, ◌++◌, length, codes}
 use Rattle.st_text.specs.Bytes.{are_blanks}
 use Rattle.st_text.specs.Lines.{skip_blanks}
-use Rattle.st_batch.specs.declared.command.TheConstants.{MAX_NAME}
 
 -- a name by which a file may be loaded: UTF-8 of 1 to 255 bytes
 pub record IsFileName (name : List ℕ) : Type 0 where
   pub some : 1 ≤ length name
-  pub short : length name ≤ MAX_NAME
+  pub short : length name ≤ 255
   pub utf8 : IsUtf8 name
 
 -- the text is a word, some blanks, and a name, which begins behind the last of them

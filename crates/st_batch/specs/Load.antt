@@ -9,7 +9,6 @@ use Rattle.st_pool.specs.Loaded.{value_count, loaded_count}
 use Rattle.st_pool.specs.declared.kernel.Kernel.{Kernel}
 use Rattle.st_batch.specs.declared.fault.LineFault.{LineFault}
 use Rattle.st_batch.specs.declared.fault.LineFault.TheVariants.{NoFile, FileFault, FileTooLong, KernelText, TooManyKernels, TooManyValues, OutOfMemory}
-use Rattle.st_batch.specs.declared.load.TheConstants.{MAX_FILE}
 
 -- the file of this name has these bytes
 abbrev pub HasFile : Option Entries → List ℕ → List ℕ → Type 0
@@ -19,7 +18,7 @@ HasFile (Some files) name bytes = bytes_of name files ≡ Some bytes
 -- the file of this name has more bytes than a file may have
 abbrev pub HasLongFile : Option Entries → List ℕ → Type 0
 HasLongFile None name = ⊤
-HasLongFile (Some files) name = (bytes : List ℕ) × (bytes_of name files ≡ Some bytes) × (MAX_FILE < length bytes)
+HasLongFile (Some files) name = (bytes : List ℕ) × (bytes_of name files ≡ Some bytes) × (16_777_216 < length bytes)
 
 -- what is left to read is these bytes
 abbrev pub IsRest : Option (List ℕ) → List ℕ → Type 0
@@ -35,14 +34,14 @@ IsLongRest (Some left) count = count < length left
 pub record HoldsKernel (files : Option Entries) (name : List ℕ) (assignments : List Assignment) : Type 0 where
   pub bytes : List ℕ
   pub has : HasFile files name bytes
-  pub few : length bytes ≤ MAX_FILE
+  pub few : length bytes ≤ 16_777_216
   pub reads : Reads bytes (Ok assignments)
 
 -- the file of this name is no kernel, by its first fault
 pub record HoldsFault (files : Option Entries) (name : List ℕ) (line : ℕ) (cause : TextCause) : Type 0 where
   pub bytes : List ℕ
   pub has : HasFile files name bytes
-  pub few : length bytes ≤ MAX_FILE
+  pub few : length bytes ≤ 16_777_216
   pub reads : Reads bytes (Err (At line cause))
 
 -- the file of this name is a kernel, which the loaded list takes: it stands at the end of the new list

@@ -8,7 +8,6 @@ use Rattle.st_batch.specs.declared.answer.Answer.{Answer}
 use Rattle.st_batch.specs.declared.answer.Answer.TheVariants.{Text, Refused}
 use Rattle.st_batch.specs.declared.fault.WordFault.TheVariants.{NotBuilt}
 use Rattle.st_batch.specs.declared.fault.LineFault.{LineFault}
-use Rattle.st_batch.specs.declared.input.TheConstants.{MAX_INPUT}
 use Rattle.st_batch.specs.declared.job.Job.{Job}
 use Rattle.st_batch.specs.declared.job.Work.{Work}
 use Rattle.st_batch.specs.declared.job.Work.TheVariants.{Time, Batch}
@@ -97,7 +96,7 @@ BeginsAllowed o words bytes = BeginsAnswers o words bytes ⊎ BeginsRefusal o wo
 -- the input, where it tells its bytes, has more than it may have
 abbrev pub IsLongInput : Option (List ℕ) → Type 0
 IsLongInput None = ⊤
-IsLongInput (Some bytes) = MAX_INPUT < length bytes
+IsLongInput (Some bytes) = 67_108_864 < length bytes
 
 -- The bytes that the output took, by how the run ended: all that is to be written, or a beginning of it.
 abbrev pub Outcome : Outside → List (List ℕ) → Status → List ℕ → Type 0

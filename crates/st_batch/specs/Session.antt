@@ -11,7 +11,6 @@ use Rattle.st_batch.specs.declared.answer.Answer.TheVariants.{Text, Refused}
 use Rattle.st_batch.specs.declared.fault.LineFault.{LineFault}
 use Rattle.st_batch.specs.declared.fault.LineFault.TheVariants.{BadCommand, LineTooLong, NotLoaded, NotBuilt, BadTime}
 use Rattle.st_batch.specs.declared.leap_seconds.LeapPair.{LeapPair}
-use Rattle.st_batch.specs.declared.session.TheConstants.{MAX_LINE}
 use Rattle.st_batch.specs.Commands.{IsLoad, IsUnload, IsClear, IsNoCommand, begins_command}
 use Rattle.st_batch.specs.LeapSeconds.{GiveTable, tai_of}
 use Rattle.st_batch.specs.Load.{LoadGives}
@@ -28,7 +27,7 @@ SpellsSeconds units text = (micros : ℤ) × IsTruncated units micros × (text �
 
 -- the line is no longer than a line may be, and is this text between blanks
 pub record IsLine (line text : List ℕ) : Type 0 where
-  pub short : length line ≤ MAX_LINE
+  pub short : length line ≤ 1000
   pub trimmed : text ≡ trimmed line
 
 -- the text begins as a time does
@@ -68,7 +67,7 @@ pub record Converts (loaded : List Kernel) (text said : List ℕ) : Type 0 where
 abbrev pub MayAnswer : Option Entries → List Kernel → List ℕ → Answer → List Kernel → Type 0
 MayAnswer files loaded line (Text said) after =
     (text : List ℕ) × IsLine line text × (CarriesOut files loaded text said after ⊎ (Converts loaded text said × (after ≡ loaded)))
-MayAnswer files loaded line (Refused LineTooLong) after = (MAX_LINE < length line) × (after ≡ loaded)
+MayAnswer files loaded line (Refused LineTooLong) after = (1000 < length line) × (after ≡ loaded)
 MayAnswer files loaded line (Refused cause) after = ((text : List ℕ) × IsLine line text × MayRefuse files loaded text cause) × (after ≡ loaded)
 
 -- each line may be given its answer, by the loaded list that the lines before it leave

@@ -1,8 +1,6 @@
 -- The words that ask for a conversion, after the options of the CHRONOS User's Guide.
 use Rattle.std.specs.Prelude.{◌≡◌, ℕ, ◌≤◌, Option, Some, None, List, [], ◌∷◌, length, codes, ⊤}
 use Rattle.st_text.specs.Lines.{lines_of}
-use Rattle.st_batch.specs.declared.command.TheConstants.{MAX_NAME}
-use Rattle.st_batch.specs.declared.input.TheConstants.{MAX_INPUT}
 use Rattle.st_batch.specs.declared.job.Job.{Job}
 use Rattle.st_batch.specs.declared.job.Work.{Work}
 use Rattle.st_batch.specs.declared.job.Work.TheVariants.{Time, Batch}
@@ -16,7 +14,7 @@ work_words Batch = codes "-batch" ∷ []
 pub record AskFor (words : List (List ℕ)) (job : Job) : Type 0 where
   pub shape : words ≡ codes "-setup" ∷ job.setup ∷ codes "-from" ∷ codes "UTC" ∷ codes "-to" ∷ codes "TAI" ∷ work_words job.work
   pub named : 1 ≤ length job.setup
-  pub short : length job.setup ≤ MAX_NAME
+  pub short : length job.setup ≤ 255
 
 -- the words ask for no conversion
 abbrev pub AskForNone : List (List ℕ) → Type 0
@@ -30,5 +28,5 @@ AreLines Batch (Some bytes) lines = lines ≡ lines_of bytes
 
 -- the input, where it is read, has no more bytes than it may have
 abbrev pub IsShortInput : Work → Option (List ℕ) → Type 0
-IsShortInput Batch (Some bytes) = length bytes ≤ MAX_INPUT
+IsShortInput Batch (Some bytes) = length bytes ≤ 67_108_864
 IsShortInput work input = ⊤

@@ -41,7 +41,7 @@ pub fn answer_lines<F: Files, I: Source, O: Sink>(
     ensures of_lines { IsOfLines result }
     ensures write_fault { result ≡ Status.WriteFault → Rose (O.faults out.old) (O.faults out.new) }
     ensures read_fault { result ≡ Status.ReadFault → Rose (I.faults input.old) (I.faults input.new) }
-    ensures too_long { result ≡ Status.InputTooLong → RoseBeyond MAX_INPUT (I.taken input.old) (I.taken input.new) }
+    ensures too_long { result ≡ Status.InputTooLong → RoseBeyond 67108864 (I.taken input.old) (I.taken input.new) }
     ensures whole { work.now ≡ Work.Batch → IsWhole result → IsAtEnd (I.left input.new) }
     ensures left { work.now ≢ Work.Batch → I.left input.new ≡ I.left input.old }
     ensures taken { work.now ≢ Work.Batch → I.taken input.new ≡ I.taken input.old }

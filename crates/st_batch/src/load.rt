@@ -30,7 +30,7 @@ pub fn load_file<F: Files>(
     ensures err { IfErr result (LoadRefuses (F.map files.old) pool.old name.now) }
     ensures refused { OnErr result (pool.new ≡ pool.old) }
     ensures cause { IfErr result (λ fault. IsSetupCaused fault (Rose (F.misses files.old) (F.misses files.new))
-        (Rose (F.faults files.old) (F.faults files.new)) (RoseBeyond MAX_FILE (F.taken files.old) (F.taken files.new))) }
+        (Rose (F.faults files.old) (F.faults files.new)) (RoseBeyond 16777216 (F.taken files.old) (F.taken files.new))) }
     ensures closed { F.opened files.new ≡ false }
     ensures map { F.map files.new ≡ F.map files.old }
     ensures misses_later { F.misses files.old ≤ F.misses files.new }
@@ -80,10 +80,10 @@ fn refused_load(fault: LoadFault) -> LineFault
 /// The bytes of the file of this name, which has at most `MAX_FILE`. No file is open afterwards.
 pub fn read_file<F: Files>(alloc: Global, name: &[u8], files: &mut F) -> Result<Vec<u8>, LineFault>
     ensures ok { IfOk result (λ bytes. HasFile (F.map files.old) name.now bytes.items) }
-    ensures few { IfOk result (λ bytes. length bytes.items ≤ MAX_FILE) }
+    ensures few { IfOk result (λ bytes. length bytes.items ≤ 16777216) }
     ensures err { IfErr result (ReadRefuses (F.map files.old) name.now) }
     ensures cause { IfErr result (λ fault. IsSetupCaused fault (Rose (F.misses files.old) (F.misses files.new))
-        (Rose (F.faults files.old) (F.faults files.new)) (RoseBeyond MAX_FILE (F.taken files.old) (F.taken files.new))) }
+        (Rose (F.faults files.old) (F.faults files.new)) (RoseBeyond 16777216 (F.taken files.old) (F.taken files.new))) }
     ensures closed { F.opened files.new ≡ false }
     ensures map { F.map files.new ≡ F.map files.old }
     ensures misses_later { F.misses files.old ≤ F.misses files.new }
@@ -105,10 +105,10 @@ pub fn read_file<F: Files>(alloc: Global, name: &[u8], files: &mut F) -> Result<
 fn read_open<F: Files>(alloc: Global, files: &mut F) -> Result<Vec<u8>, LineFault>
     requires { F.opened files.old ≡ true }
     ensures ok { IfOk result (λ bytes. IsRest (F.left files.old) bytes.items) }
-    ensures few { IfOk result (λ bytes. length bytes.items ≤ MAX_FILE) }
+    ensures few { IfOk result (λ bytes. length bytes.items ≤ 16777216) }
     ensures err { IfErr result (RestRefuses (F.left files.old)) }
     ensures cause { IfErr result (λ fault. IsSetupCaused fault ⊥ (Rose (F.faults files.old) (F.faults files.new))
-        (RoseBeyond MAX_FILE (F.taken files.old) (F.taken files.new))) }
+        (RoseBeyond 16777216 (F.taken files.old) (F.taken files.new))) }
     ensures map { F.map files.new ≡ F.map files.old }
     ensures misses { F.misses files.new ≡ F.misses files.old }
     ensures later { F.faults files.old ≤ F.faults files.new }

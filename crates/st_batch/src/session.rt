@@ -15,7 +15,7 @@ use crate::command::name_behind;
 use crate::convert::answer_time;
 use crate::fault::LineFault;
 use crate::job::Job;
-use crate::load::{MAX_FILE, load_file};
+use crate::load::load_file;
 use st_decimal::OutOfMemory;
 use st_outside::Files;
 use st_pool::{NotLoaded, Pool};
@@ -52,7 +52,7 @@ impl Session {
         ensures ok { IfOk result (λ session. LoadGives (F.map files.old) [] job.setup (Ok session)) }
         ensures err { IfErr result (LoadRefuses (F.map files.old) [] job.setup) }
         ensures cause { IfErr result (λ fault. IsSetupCaused fault (Rose (F.misses files.old) (F.misses files.new))
-            (Rose (F.faults files.old) (F.faults files.new)) (RoseBeyond MAX_FILE (F.taken files.old) (F.taken files.new))) }
+            (Rose (F.faults files.old) (F.faults files.new)) (RoseBeyond 16777216 (F.taken files.old) (F.taken files.new))) }
         ensures closed { F.opened files.new ≡ false }
         ensures map { F.map files.new ≡ F.map files.old }
         ensures misses_later { F.misses files.old ≤ F.misses files.new }
@@ -70,7 +70,7 @@ impl Session {
         ensures ok { IfOk result (λ session. LoadGives (F.map files.old) [] setup.now (Ok session)) }
         ensures err { IfErr result (LoadRefuses (F.map files.old) [] setup.now) }
         ensures cause { IfErr result (λ fault. IsSetupCaused fault (Rose (F.misses files.old) (F.misses files.new))
-            (Rose (F.faults files.old) (F.faults files.new)) (RoseBeyond MAX_FILE (F.taken files.old) (F.taken files.new))) }
+            (Rose (F.faults files.old) (F.faults files.new)) (RoseBeyond 16777216 (F.taken files.old) (F.taken files.new))) }
         ensures closed { F.opened files.new ≡ false }
         ensures map { F.map files.new ≡ F.map files.old }
         ensures misses_later { F.misses files.old ≤ F.misses files.new }
@@ -100,7 +100,7 @@ impl Session {
         ensures refused { IfOk result (λ answer. is_refused answer ≡ true → self.new ≡ self.old) }
         ensures err { OnErr result (self.new ≡ self.old) }
         ensures cause { IfOk result (λ answer. IsAnswerCaused answer (Rose (F.misses files.old) (F.misses files.new))
-            (Rose (F.faults files.old) (F.faults files.new)) (RoseBeyond MAX_FILE (F.taken files.old) (F.taken files.new))) }
+            (Rose (F.faults files.old) (F.faults files.new)) (RoseBeyond 16777216 (F.taken files.old) (F.taken files.new))) }
         ensures closed { F.opened files.old ≡ false → F.opened files.new ≡ false }
         ensures map { F.map files.new ≡ F.map files.old }
         ensures misses_later { F.misses files.old ≤ F.misses files.new }
@@ -126,7 +126,7 @@ impl Session {
         ensures refused { IfOk result (λ answer. is_refused answer ≡ true → self.new ≡ self.old) }
         ensures err { OnErr result (self.new ≡ self.old) }
         ensures cause { IfOk result (λ answer. IsAnswerCaused answer (Rose (F.misses files.old) (F.misses files.new))
-            (Rose (F.faults files.old) (F.faults files.new)) (RoseBeyond MAX_FILE (F.taken files.old) (F.taken files.new))) }
+            (Rose (F.faults files.old) (F.faults files.new)) (RoseBeyond 16777216 (F.taken files.old) (F.taken files.new))) }
         ensures closed { F.opened files.old ≡ false → F.opened files.new ≡ false }
         ensures map { F.map files.new ≡ F.map files.old }
         ensures misses_later { F.misses files.old ≤ F.misses files.new }
@@ -174,7 +174,7 @@ fn answer_command_line<F: Files>(
     ensures refused { IfOk result (λ answer. is_refused answer ≡ true → pool.new ≡ pool.old) }
     ensures err { OnErr result (pool.new ≡ pool.old) }
     ensures cause { IfOk result (λ answer. IsAnswerCaused answer (Rose (F.misses files.old) (F.misses files.new))
-        (Rose (F.faults files.old) (F.faults files.new)) (RoseBeyond MAX_FILE (F.taken files.old) (F.taken files.new))) }
+        (Rose (F.faults files.old) (F.faults files.new)) (RoseBeyond 16777216 (F.taken files.old) (F.taken files.new))) }
     ensures closed { F.opened files.old ≡ false → F.opened files.new ≡ false }
     ensures map { F.map files.new ≡ F.map files.old }
     ensures misses_later { F.misses files.old ≤ F.misses files.new }
@@ -198,7 +198,7 @@ fn answer_command<F: Files>(
     ensures refused { IfOk result (λ answer. is_refused answer ≡ true → pool.new ≡ pool.old) }
     ensures err { OnErr result (pool.new ≡ pool.old) }
     ensures cause { IfOk result (λ answer. IsAnswerCaused answer (Rose (F.misses files.old) (F.misses files.new))
-        (Rose (F.faults files.old) (F.faults files.new)) (RoseBeyond MAX_FILE (F.taken files.old) (F.taken files.new))) }
+        (Rose (F.faults files.old) (F.faults files.new)) (RoseBeyond 16777216 (F.taken files.old) (F.taken files.new))) }
     ensures closed { F.opened files.old ≡ false → F.opened files.new ≡ false }
     ensures map { F.map files.new ≡ F.map files.old }
     ensures misses_later { F.misses files.old ≤ F.misses files.new }
@@ -227,7 +227,7 @@ fn load_named<F: Files>(
     ensures refused { IfOk result (λ answer. is_refused answer ≡ true → pool.new ≡ pool.old) }
     ensures err { OnErr result (pool.new ≡ pool.old) }
     ensures cause { IfOk result (λ answer. IsAnswerCaused answer (Rose (F.misses files.old) (F.misses files.new))
-        (Rose (F.faults files.old) (F.faults files.new)) (RoseBeyond MAX_FILE (F.taken files.old) (F.taken files.new))) }
+        (Rose (F.faults files.old) (F.faults files.new)) (RoseBeyond 16777216 (F.taken files.old) (F.taken files.new))) }
     ensures closed { F.opened files.old ≡ false → F.opened files.new ≡ false }
     ensures map { F.map files.new ≡ F.map files.old }
     ensures misses_later { F.misses files.old ≤ F.misses files.new }

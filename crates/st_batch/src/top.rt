@@ -14,9 +14,8 @@ ghost use Rattle.st_batch.specs.declared.status.Status.TheVariants.{BadSetup};
 
 use crate::answer::put_refused;
 use crate::fault::{LineFault, WordFault};
-use crate::input::{MAX_INPUT, answer_lines};
+use crate::input::answer_lines;
 use crate::job::Job;
-use crate::load::MAX_FILE;
 use crate::session::Session;
 use crate::status::Status;
 use crate::words::read_words;
@@ -48,10 +47,10 @@ pub fn run<F: Files, I: Source, O: Sink>(
 
     // What comes from outside has its cause, whether bytes are told or not.
     ensures causes { IsStatusCaused result (Rose (F.misses files.old) (F.misses files.new))
-        (Rose (F.faults files.old) (F.faults files.new)) (RoseBeyond MAX_FILE (F.taken files.old) (F.taken files.new)) }
+        (Rose (F.faults files.old) (F.faults files.new)) (RoseBeyond 16777216 (F.taken files.old) (F.taken files.new)) }
     ensures write_fault { result ≡ Status.WriteFault → Rose (O.faults out.old) (O.faults out.new) }
     ensures read_fault { result ≡ Status.ReadFault → Rose (I.faults input.old) (I.faults input.new) }
-    ensures too_long { result ≡ Status.InputTooLong → RoseBeyond MAX_INPUT (I.taken input.old) (I.taken input.new) }
+    ensures too_long { result ≡ Status.InputTooLong → RoseBeyond 67108864 (I.taken input.old) (I.taken input.new) }
 
     // The input is read to its end where its lines were answered, and not at all where there were none to answer.
     ensures whole { ReadsAll (map string_bytes words.now) result → IsAtEnd (I.left input.new) }
@@ -90,10 +89,10 @@ fn run_job<F: Files, I: Source, O: Sink>(
         }) words result) }
     ensures of_job { IsOfJob result }
     ensures causes { IsStatusCaused result (Rose (F.misses files.old) (F.misses files.new))
-        (Rose (F.faults files.old) (F.faults files.new)) (RoseBeyond MAX_FILE (F.taken files.old) (F.taken files.new)) }
+        (Rose (F.faults files.old) (F.faults files.new)) (RoseBeyond 16777216 (F.taken files.old) (F.taken files.new)) }
     ensures write_fault { result ≡ Status.WriteFault → Rose (O.faults out.old) (O.faults out.new) }
     ensures read_fault { result ≡ Status.ReadFault → Rose (I.faults input.old) (I.faults input.new) }
-    ensures too_long { result ≡ Status.InputTooLong → RoseBeyond MAX_INPUT (I.taken input.old) (I.taken input.new) }
+    ensures too_long { result ≡ Status.InputTooLong → RoseBeyond 67108864 (I.taken input.old) (I.taken input.new) }
     ensures whole { job.now.work ≡ Batch → IsWhole result → IsAtEnd (I.left input.new) }
     ensures left { HasNoInput job.now result → I.left input.new ≡ I.left input.old }
     ensures taken { HasNoInput job.now result → I.taken input.new ≡ I.taken input.old }
