@@ -1,3 +1,4 @@
+pub mod CutLaws
 pub mod Decimals
 pub mod KernelLaws
 pub mod Numbers
