@@ -3,6 +3,8 @@ pub mod Decimals
 pub mod KernelLaws
 pub mod Numbers
 pub mod PairsLaws
+pub mod ProgressLaws
+pub mod ReadLaws
 pub mod ScanLaws
 pub mod TableLaws
 pub mod Tests
