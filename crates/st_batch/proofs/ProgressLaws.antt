@@ -1,5 +1,5 @@
 -- How the answering of lines comes along.
-use Rattle.std.proofs.Common.{◌≡◌, ℕ, ◌+◌, ◌-◌, ◌^◌, ◌≤◌, min, Bool, true, false, ◌||◌, cond, Option, Some, None, List, [], ◌∷◌, ◌++◌, length, refl, sym, ◌∙◌, ap, arith, subst, append_assoc, append-nil}
+use Rattle.std.proofs.Common.{◌≡◌, ℕ, ◌+◌, ◌-◌, ◌^◌, ◌≤◌, min, Bool, true, false, ◌||◌, cond, Option, Some, None, Result, Ok, Err, OnOk, List, [], ◌∷◌, ◌++◌, length, refl, sym, ◌∙◌, ap, arith, subst, append_assoc, append-nil}
 use Rattle.std.specs.Io.KnownBytes.{Appends}
 use Rattle.std.specs.List.{flat_map, list_any, count_by}
 use Rattle.std.proofs.KnownBytes.{Appends-nil, Appends-trans}
@@ -129,7 +129,7 @@ advances-writes files counts before now a b p = record {
 }
 
 -- all that was gathered was written
-pub writes-all : (before now : Option (List ℕ)) (a b : Answering) → Appends before now a.gathered.items → b.gathered.items ≡ [] → b.session ≡ a.session → b.refused ≡ a.refused
+writes-all : (before now : Option (List ℕ)) (a b : Answering) → Appends before now a.gathered.items → b.gathered.items ≡ [] → b.session ≡ a.session → b.refused ≡ a.refused
     → Writes before now a b
 writes-all before now a b p none session refused = record {
   written = a.gathered.items;
@@ -138,6 +138,13 @@ writes-all before now a b p none session refused = record {
   session = session;
   refused = refused;
 }
+
+-- the same where the writing may have failed
+pub writes-ok : {E : Type 0} (result : Result (Unit {0}) E) (before now : Option (List ℕ)) (a b : Answering)
+    → OnOk result (Appends before now a.gathered.items) → OnOk result (b.gathered.items ≡ []) → b.session ≡ a.session → b.refused ≡ a.refused
+    → OnOk result (Writes before now a b)
+writes-ok (Ok u) before now a b p none session refused = writes-all before now a b p none session refused
+writes-ok (Err e) before now a b p none session refused = tt
 
 -- a fault of the output stopped the writing of what was gathered
 pub stops-cut : (files : Option Entries) (a b : Moment) (counts : Counts) (taken : Option (List ℕ)) (lines : List (List ℕ))

@@ -10,7 +10,7 @@ use Rattle.st_batch.specs.Causes.{Counts}
 use Rattle.st_batch.specs.Progress.{Moment, AreLater, AnswersOne, Writes, Finishes, FinishesWriting, HasNoFeed, CutsAtFeed, Reads, Halts, ReadsPart}
 use Rattle.st_batch.specs.Taken.{TakesPrefix}
 use Rattle.st_batch.proofs.CutLaws.{joined_no_feed, lines-begun, cuts-none, cuts-join, cuts-begun, cuts-line, ends-cut, ends-none, ends-longer, ends-join}
-use Rattle.st_batch.proofs.ProgressLaws.{advances-none, advances-join, advances-one, advances-writes, writes-all, stops-cut, stops-here, stops-after, finishes-written}
+use Rattle.st_batch.proofs.ProgressLaws.{advances-none, advances-join, advances-one, advances-writes, stops-cut, stops-here, stops-after, finishes-written}
 
 -- the counts are no later than themselves
 pub later-same : (a : Counts) → AreLater a a
@@ -92,20 +92,21 @@ piece-cut seen rest end behind piece p q =
     p ∙ ap (λ (l : List ℕ). seen ++ l) (q ∙ sym (append_assoc end (10 ∷ []) behind)) ∙ sym (append_assoc seen (end ++ (10 ∷ [])) behind)
 
 -- one more line of a piece was answered
-pub part-next : (files : Option Entries) (a b c : Moment) (x y z piece rest end behind : List ℕ)
-    → ReadsPart files a b x piece rest y → CutsAtFeed rest end behind → Reads files b c y (end ++ (10 ∷ [])) z → ReadsPart files a c x piece behind z
-part-next files a b c x y z piece rest end behind p cut q = record {
+pub part-next : (files same : Option Entries) (a b c : Moment) (x y z piece rest end behind : List ℕ)
+    → same ≡ files → ReadsPart files a b x piece rest y → CutsAtFeed rest end behind → Reads same b c y (end ++ (10 ∷ [])) z → ReadsPart files a c x piece behind z
+part-next files same a b c x y z piece rest end behind e p cut q = record {
   seen = p.seen ++ (end ++ (10 ∷ []));
   whole = piece-cut p.seen rest end behind piece p.whole cut.whole;
-  read = reads-join files a b c x y z p.seen (end ++ (10 ∷ [])) p.read q;
+  read = reads-join files a b c x y z p.seen (end ++ (10 ∷ [])) p.read (subst (λ (f : Option Entries). Reads f b c y (end ++ (10 ∷ [])) z) e q);
 }
 
 -- the answering stopped at the next line of a piece
-pub halts-next : (files : Option Entries) (a b : Moment) (now : Counts) (taken : Option (List ℕ)) (x y piece rest end behind : List ℕ)
-    → ReadsPart files a b x piece rest y → CutsAtFeed rest end behind → Halts files b now taken y (end ++ (10 ∷ [])) → Halts files a now taken x piece
-halts-next files a b now taken x y piece rest end behind p cut q =
+pub halts-next : (files same : Option Entries) (a b : Moment) (now : Counts) (taken : Option (List ℕ)) (x y piece rest end behind : List ℕ)
+    → same ≡ files → ReadsPart files a b x piece rest y → CutsAtFeed rest end behind → Halts same b now taken y (end ++ (10 ∷ [])) → Halts files a now taken x piece
+halts-next files same a b now taken x y piece rest end behind e p cut q =
+    let halts = subst (λ (f : Option Entries). Halts f b now taken y (end ++ (10 ∷ []))) e q in
     subst (λ (l : List ℕ). Halts files a now taken x l) (sym (piece-cut p.seen rest end behind piece p.whole cut.whole))
-        (halts-longer files a now taken x (p.seen ++ (end ++ (10 ∷ []))) behind (halts-after files a b now taken x y p.seen (end ++ (10 ∷ [])) p.read q))
+        (halts-longer files a now taken x (p.seen ++ (end ++ (10 ∷ []))) behind (halts-after files a b now taken x y p.seen (end ++ (10 ∷ [])) p.read halts))
 
 -- a piece was read whole, and all that was gathered written
 pub part-last : (files : Option Entries) (counts now : Counts) (before taken then : Option (List ℕ)) (a b c : Answering) (x y z piece rest : List ℕ)
