@@ -1,5 +1,6 @@
 pub mod CutLaws
 pub mod Decimals
+pub mod InputLaws
 pub mod KernelLaws
 pub mod Numbers
 pub mod PairsLaws
