@@ -81,10 +81,13 @@ lines-end files input work a now taken lines ReadFault none fresh are short s = 
 lines-end files input work a now taken lines InputTooLong none fresh are short s = absurd s
 
 -- the one line of the words was answered
-pub time-ends : (files : Option Entries) (input : Option (List ℕ)) (text : List ℕ) (a : Moment) (now : Counts) (taken : Option (List ℕ)) (status : Status)
-    → a.answering.gathered.items ≡ [] → a.answering.refused ≡ false → Finishes files a now taken (text ∷ []) status
-    → WhereTold a.taken taken (λ bytes. LinesEnd (around files input a now) (Time text) a.answering.session status bytes)
-time-ends files input text a now taken status none fresh s = lines-end files input (Time text) a now taken (text ∷ []) status none fresh refl tt s
+pub time-ends : (files : Option Entries) (input : Option (List ℕ)) (text line : List ℕ) (work : Work) (loaded : List Kernel) (a : Moment) (now : Counts) (taken : Option (List ℕ)) (status : Status)
+    → a.answering.session ≡ loaded → a.answering.gathered.items ≡ [] → a.answering.refused ≡ false → work ≡ Time text → line ≡ text → Finishes files a now taken (line ∷ []) status
+    → WhereTold a.taken taken (λ bytes. LinesEnd (around files input a now) work loaded status bytes)
+time-ends files input text line work loaded a now taken status session none fresh e f s =
+    let ended = lines-end files input (Time text) a now taken (text ∷ []) status none fresh refl tt (subst (λ (l : List ℕ). Finishes files a now taken (l ∷ []) status) f s) in
+    subst (λ (w : Work). WhereTold a.taken taken (λ bytes. LinesEnd (around files input a now) w loaded status bytes)) (sym e)
+        (subst (λ (l : List Kernel). WhereTold a.taken taken (λ bytes. LinesEnd (around files input a now) (Time text) l status bytes)) session ended)
 
 -- nothing of the input was read
 pub input-none : (files : Option Entries) (input : Option (List ℕ)) (a : Moment) (begun : List ℕ) → begun ≡ [] → ReadsInput files input input a a begun 0
