@@ -1,11 +1,15 @@
 pub mod CommandLaws
+pub mod CutLaws
 pub mod Decimals
+pub mod InputLaws
 pub mod KernelLaws
 pub mod LineLaws
 pub mod Numbers
 pub mod OneLoad
 pub mod OneOutput
 pub mod PairsLaws
+pub mod ProgressLaws
+pub mod ReadLaws
 pub mod RunLaws
 pub mod ScanLaws
 pub mod SessionLaws

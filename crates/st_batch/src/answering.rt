@@ -1,10 +1,9 @@
 //! Answering lines and gathering their answers until they are written.
 
-ghost use Rattle.std.specs.Prelude.{◌≡◌, ◌≤◌, false, if◌then◌else◌, [], ◌∷◌, IfOk, OnOk, OnErr, IsErrOf};
-ghost use Rattle.std.specs.Io.KnownBytes.{Appends, Keeps};
+ghost use Rattle.std.specs.Prelude.{◌≡◌, ◌≤◌, false, if◌then◌else◌, [], OnOk, OnErr, IsErrOf};
+ghost use Rattle.std.specs.Io.KnownBytes.{Appends};
 ghost use Rattle.st_outside.specs.Causes.{Rose};
-ghost use Rattle.st_batch.specs.Causes.{Counts};
-ghost use Rattle.st_batch.specs.Progress.{Advances};
+ghost use Rattle.st_batch.specs.Progress.{AnswersOne, Writes};
 ghost use Rattle.st_batch.specs.Taken.{TakesPrefix};
 
 use crate::answer::{Answer, put_answer};
@@ -21,6 +20,7 @@ const ENOUGH: usize = 65_536;
 /// A session, and what it has answered and not yet written.
 #[derive(Debug, Drop)]
 pub struct Answering {
+    pub alloc: Global,
     pub session: Session,
     pub gathered: Vec<u8>,
     /// Whether a line was refused.
@@ -35,6 +35,7 @@ impl Answering {
         ensures refused { result.refused ≡ false }
     {
         Answering {
+            alloc,
             session,
             gathered: Vec::new(alloc),
             refused: false,
@@ -42,15 +43,11 @@ impl Answering {
     }
 
     /// Answers one line. Where memory is refused nothing of its answer is gathered.
-    pub fn answer<F: Files>(
-        &mut self,
-        alloc: Global,
-        line: &[u8],
-        files: &mut F,
-    ) -> Result<(), OutOfMemory>
-        ensures ok { OnOk result (Advances (F.map files.old)
-            (record { misses = F.misses files.old; faults = F.faults files.old }) (record { misses = F.misses files.new; faults = F.faults files.new })
-            self.old self.new (line.now ∷ []) []) }
+    pub fn answer<F: Files>(&mut self, line: &[u8], files: &mut F) -> Result<(), OutOfMemory>
+        ensures ok { OnOk result (AnswersOne (F.map files.old)
+            (record { misses = F.misses files.old; faults = F.faults files.old })
+            (record { misses = F.misses files.new; faults = F.faults files.new })
+            self.old self.new line.now) }
         ensures err { OnErr result (self.new.gathered.items ≡ self.old.gathered.items) }
         ensures closed { F.opened files.old ≡ false → F.opened files.new ≡ false }
         ensures map { F.map files.new ≡ F.map files.old }
@@ -58,7 +55,7 @@ impl Answering {
         ensures faults_later { F.faults files.old ≤ F.faults files.new }
     {
         let answer = self.session.answer_line(line, files)?;
-        let mut text = Vec::new(alloc);
+        let mut text = Vec::new(self.alloc);
         put_answer(&mut text, &answer)?;
         self.gathered.extend_from_slice(text.as_slice())?;
         self.refused = self.refused || matches!(answer, Answer::Refused(_));
@@ -66,7 +63,12 @@ impl Answering {
     }
 
     /// Writes what is gathered, where that is enough.
-    pub fn write_enough<O: Sink>(&mut self, out: &mut O) -> Result<(), SinkFault> {
+    pub fn write_enough<O: Sink>(&mut self, out: &mut O) -> Result<(), SinkFault>
+        ensures ok { OnOk result (Writes (O.taken out.old) (O.taken out.new) self.old self.new) }
+        ensures err { OnErr result (TakesPrefix (O.taken out.old) (O.taken out.new) self.old.gathered.items) }
+        ensures later { O.faults out.old ≤ O.faults out.new }
+        ensures cause { IsErrOf result SinkFault.Failed → Rose (O.faults out.old) (O.faults out.new) }
+    {
         if self.gathered.len() < ENOUGH {
             return Ok(());
         }
@@ -76,7 +78,7 @@ impl Answering {
     /// Writes what is gathered.
     pub fn write<O: Sink>(&mut self, out: &mut O) -> Result<(), SinkFault>
         ensures ok { OnOk result (Appends (O.taken out.old) (O.taken out.new) self.old.gathered.items) }
-        ensures ok_gathered { OnOk result (self.new.gathered.items ≡ []) }
+        ensures gathered { OnOk result (self.new.gathered.items ≡ []) }
         ensures err { OnErr result (TakesPrefix (O.taken out.old) (O.taken out.new) self.old.gathered.items) }
         ensures session { self.new.session ≡ self.old.session }
         ensures refused { self.new.refused ≡ self.old.refused }

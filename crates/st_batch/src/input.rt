@@ -1,11 +1,12 @@
 //! The lines of the input.
 
-ghost use Rattle.std.specs.Prelude.{◌≡◌, ◌≢◌, ◌≤◌, false, OnOk, OnErr, IsErrOf};
-ghost use Rattle.std.specs.Io.KnownBytes.{Appends, IsAtEnd};
+ghost use Rattle.std.specs.Prelude.{◌≡◌, ◌≢◌, ◌≤◌, ◌==◌, false, [], ◌∷◌, ◌++◌, length, position, MatchOption, OnOk, OnErr, IsErrOf};
+ghost use Rattle.std.specs.Io.KnownBytes.{IsAtEnd};
 ghost use Rattle.st_outside.specs.Causes.{Rose, RoseBeyond};
-ghost use Rattle.st_batch.specs.Causes.{Counts};
-ghost use Rattle.st_batch.specs.Outcome.{WhereTold};
-ghost use Rattle.st_batch.specs.Progress.{Advances, Stops, Cuts, EndsLines, LinesEnd, IsOfLines, IsWhole};
+ghost use Rattle.st_text.specs.Lines as lines;
+ghost use Rattle.st_batch.specs.Outcome.{IsLongInput, WhereTold};
+ghost use Rattle.st_batch.specs.Progress.{AnswersOne, CutsAtFeed, Finishes, FinishesWriting, Halts, HasNoFeed, IsOfLines, IsWhole, LinesEnd, Reads, stopped_by};
+ghost use Rattle.st_batch.specs.declared.job.Work.TheVariants.{Batch};
 
 use crate::answering::Answering;
 use crate::job::Work;
@@ -33,10 +34,10 @@ pub fn answer_lines<F: Files, I: Source, O: Sink>(
 ) -> Status
     ensures told { WhereTold (O.taken out.old) (O.taken out.new) (λ bytes. LinesEnd
         (record {
-          files = F.map files.old;
-          input = I.left input.old;
-          before = record { misses = F.misses files.old; faults = F.faults files.old };
-          now = record { misses = F.misses files.new; faults = F.faults files.new };
+            files = F.map files.old;
+            input = I.left input.old;
+            before = record { misses = F.misses files.old; faults = F.faults files.old };
+            now = record { misses = F.misses files.new; faults = F.faults files.new }
         }) work.now session result bytes) }
     ensures of_lines { IsOfLines result }
     ensures write_fault { result ≡ Status.WriteFault → Rose (O.faults out.old) (O.faults out.new) }
@@ -51,74 +52,55 @@ pub fn answer_lines<F: Files, I: Source, O: Sink>(
     ensures misses_later { F.misses files.old ≤ F.misses files.new }
     ensures faults_later { F.faults files.old ≤ F.faults files.new }
 {
-    let answering = Answering::new(alloc, session);
+    let mut answering = Answering::new(alloc, session);
     match work {
-        Work::Time(text) => answer_one(alloc, answering, text.as_slice(), files, out),
-        Work::Batch => answer_input(alloc, answering, files, input, out),
-    }
-}
-
-/// Answers one line and writes its answer.
-fn answer_one<F: Files, O: Sink>(
-    alloc: Global,
-    mut answering: Answering,
-    line: &[u8],
-    files: &mut F,
-    out: &mut O,
-) -> Status {
-    if answering.answer(alloc, line, files).is_err() {
-        return Status::OutOfMemory;
-    }
-    finish(&mut answering, out)
-}
-
-/// Writes what is gathered when all lines are answered, and says how the run ended.
-fn finish<O: Sink>(answering: &mut Answering, out: &mut O) -> Status {
-    match answering.write(out) {
-        Ok(()) => answering.status(),
-        Err(fault) => stopped(fault),
-    }
-}
-
-/// How a run ends that a fault of the output or want of memory stopped.
-fn stopped(fault: SinkFault) -> Status {
-    match fault {
-        SinkFault::Failed => Status::WriteFault,
-        SinkFault::OutOfMemory => Status::OutOfMemory,
+        Work::Time(text) => answer_one(&mut answering, text.as_slice(), files, out),
+        Work::Batch => answer_input(&mut answering, files, input, out),
     }
 }
 
 /// Answers the lines of the input.
 fn answer_input<F: Files, I: Source, O: Sink>(
-    alloc: Global,
-    mut answering: Answering,
+    answering: &mut Answering,
     files: &mut F,
     input: &mut I,
     out: &mut O,
-) -> Status {
-    let mut begun = Vec::new(alloc);
+) -> Status
+    requires gathered { answering.old.gathered.items ≡ [] }
+    requires refused { answering.old.refused ≡ false }
+    ensures told { WhereTold (O.taken out.old) (O.taken out.new) (λ bytes. LinesEnd
+        (record {
+            files = F.map files.old;
+            input = I.left input.old;
+            before = record { misses = F.misses files.old; faults = F.faults files.old };
+            now = record { misses = F.misses files.new; faults = F.faults files.new }
+        }) Batch answering.old.session result bytes) }
+    ensures of_lines { IsOfLines result }
+    ensures write_fault { result ≡ Status.WriteFault → Rose (O.faults out.old) (O.faults out.new) }
+    ensures read_fault { result ≡ Status.ReadFault → Rose (I.faults input.old) (I.faults input.new) }
+    ensures too_long { result ≡ Status.InputTooLong → RoseBeyond 67108864 (I.taken input.old) (I.taken input.new) }
+    ensures whole { IsWhole result → IsAtEnd (I.left input.new) }
+    ensures closed { F.opened files.old ≡ false → F.opened files.new ≡ false }
+    ensures map { F.map files.new ≡ F.map files.old }
+    ensures misses_later { F.misses files.old ≤ F.misses files.new }
+    ensures faults_later { F.faults files.old ≤ F.faults files.new }
+{
+    let mut begun = Vec::new(answering.alloc);
     let mut piece = [0u8; PIECE];
-    let mut room = MAX_INPUT;
+    let mut read = 0;
     loop {
         let count = match input.read(&mut piece) {
             Ok(count) => count,
             Err(_) => return Status::ReadFault,
         };
         if count == 0 {
-            return answer_last(alloc, answering, begun.as_slice(), files, out);
+            return answer_last(answering, begun.as_slice(), files, out);
         }
-        if count > room {
+        if count > MAX_INPUT - read {
             return Status::InputTooLong;
         }
-        room -= count;
-        if let Err(fault) = answer_piece(
-            alloc,
-            &mut answering,
-            &mut begun,
-            &piece[..count],
-            files,
-            out,
-        ) {
+        read += count;
+        if let Err(fault) = answer_piece(answering, &mut begun, &piece[..count], files, out) {
             return stopped(fault);
         }
     }
@@ -126,58 +108,178 @@ fn answer_input<F: Files, I: Source, O: Sink>(
 
 /// Answers the line that has begun, if one has, and ends the run.
 fn answer_last<F: Files, O: Sink>(
-    alloc: Global,
-    mut answering: Answering,
+    answering: &mut Answering,
     begun: &[u8],
     files: &mut F,
     out: &mut O,
-) -> Status {
+) -> Status
+    requires { HasNoFeed begun.now }
+    ensures finished { Finishes (F.map files.old)
+        (record { counts = record { misses = F.misses files.old; faults = F.faults files.old }; taken = O.taken out.old; answering = answering.old })
+        (record { misses = F.misses files.new; faults = F.faults files.new }) (O.taken out.new) (lines.lines_of begun.now) result }
+    ensures write_fault { result ≡ Status.WriteFault → Rose (O.faults out.old) (O.faults out.new) }
+    ensures closed { F.opened files.old ≡ false → F.opened files.new ≡ false }
+    ensures map { F.map files.new ≡ F.map files.old }
+    ensures misses_later { F.misses files.old ≤ F.misses files.new }
+    ensures faults_later { F.faults files.old ≤ F.faults files.new }
+{
     if begun.is_empty() {
-        finish(&mut answering, out)
+        finish(answering, out)
     } else {
-        answer_one(alloc, answering, without_cr(begun), files, out)
+        answer_one(answering, without_cr(begun), files, out)
+    }
+}
+
+/// Answers one line and ends the run.
+fn answer_one<F: Files, O: Sink>(
+    answering: &mut Answering,
+    line: &[u8],
+    files: &mut F,
+    out: &mut O,
+) -> Status
+    ensures finished { Finishes (F.map files.old)
+        (record { counts = record { misses = F.misses files.old; faults = F.faults files.old }; taken = O.taken out.old; answering = answering.old })
+        (record { misses = F.misses files.new; faults = F.faults files.new }) (O.taken out.new) (line.now ∷ []) result }
+    ensures write_fault { result ≡ Status.WriteFault → Rose (O.faults out.old) (O.faults out.new) }
+    ensures closed { F.opened files.old ≡ false → F.opened files.new ≡ false }
+    ensures map { F.map files.new ≡ F.map files.old }
+    ensures misses_later { F.misses files.old ≤ F.misses files.new }
+    ensures faults_later { F.faults files.old ≤ F.faults files.new }
+{
+    match answering.answer(line, files) {
+        Ok(()) => finish(answering, out),
+        Err(_) => Status::OutOfMemory,
+    }
+}
+
+/// Writes what is gathered when all lines are answered, and says how the run ended.
+fn finish<O: Sink>(answering: &mut Answering, out: &mut O) -> Status
+    ensures finished { FinishesWriting (O.taken out.old) (O.taken out.new) answering.old result }
+    ensures write_fault { result ≡ Status.WriteFault → Rose (O.faults out.old) (O.faults out.new) }
+{
+    match answering.write(out) {
+        Ok(()) => answering.status(),
+        Err(fault) => stopped(fault),
+    }
+}
+
+/// How a run ends that a fault of the output or want of memory stopped.
+fn stopped(fault: SinkFault) -> Status
+    ensures { result ≡ stopped_by fault }
+{
+    match fault {
+        SinkFault::Failed => Status::WriteFault,
+        SinkFault::OutOfMemory => Status::OutOfMemory,
     }
 }
 
 /// Answers the lines that end in this piece and writes their answers. What stands behind the last of them begins the
 /// next line.
 fn answer_piece<F: Files, O: Sink>(
-    alloc: Global,
     answering: &mut Answering,
     begun: &mut Vec<u8>,
     piece: &[u8],
     files: &mut F,
     out: &mut O,
-) -> Result<(), SinkFault> {
+) -> Result<(), SinkFault>
+    requires { HasNoFeed begun.old.items }
+    ensures ok { OnOk result (Reads (F.map files.old)
+        (record { counts = record { misses = F.misses files.old; faults = F.faults files.old }; taken = O.taken out.old; answering = answering.old })
+        (record { counts = record { misses = F.misses files.new; faults = F.faults files.new }; taken = O.taken out.new; answering = answering.new })
+        begun.old.items piece.now begun.new.items) }
+    ensures gathered { OnOk result (answering.new.gathered.items ≡ []) }
+    ensures err { OnErr result (Halts (F.map files.old)
+        (record { counts = record { misses = F.misses files.old; faults = F.faults files.old }; taken = O.taken out.old; answering = answering.old })
+        (record { misses = F.misses files.new; faults = F.faults files.new }) (O.taken out.new) begun.old.items piece.now) }
+    ensures later { O.faults out.old ≤ O.faults out.new }
+    ensures cause { IsErrOf result SinkFault.Failed → Rose (O.faults out.old) (O.faults out.new) }
+    ensures closed { F.opened files.old ≡ false → F.opened files.new ≡ false }
+    ensures map { F.map files.new ≡ F.map files.old }
+    ensures misses_later { F.misses files.old ≤ F.misses files.new }
+    ensures faults_later { F.faults files.old ≤ F.faults files.new }
+{
     let mut rest = piece;
     while let Some((end, behind)) = ended_line(rest) {
-        answer_ended(alloc, answering, begun, end, files)?;
-        answering.write_enough(out)?;
-        rest = behind;
+        match answer_ended(answering, begun, end, files, out) {
+            Ok(()) => rest = behind,
+            Err(fault) => return Err(fault),
+        }
     }
-    begun.extend_from_slice(rest)?;
-    answering.write(out)
+    match begun.extend_from_slice(rest) {
+        Ok(()) => answering.write(out),
+        Err(_) => Err(SinkFault::OutOfMemory),
+    }
 }
 
 /// The bytes before the first line feed, and those behind it.
-fn ended_line(text: &[u8]) -> Option<(&[u8], &[u8])> {
-    let end = text.iter().position(|&byte| byte == b'\n')?;
-    Some((&text[..end], &text[end + 1..]))
+fn ended_line(text: &[u8]) -> Option<(&[u8], &[u8])>
+    ensures { MatchOption result (HasNoFeed text.now) (λ parts. CutsAtFeed text.now parts.0.now parts.1.now) }
+{
+    match feed_place(text) {
+        Some(end) => Some((&text[..end], &text[end + 1..])),
+        None => None,
+    }
 }
 
-/// Answers the line that has begun and ends with these bytes.
-fn answer_ended<F: Files>(
-    alloc: Global,
+/// The place of the first line feed.
+fn feed_place(text: &[u8]) -> Option<usize>
+    ensures { result ≡ position (λ b. b == 10) text.now }
+{
+    text.iter().position(|&byte| byte == b'\n')
+}
+
+/// Answers the line that has begun and ends with these bytes, which a line feed follows, and writes where enough is
+/// gathered.
+fn answer_ended<F: Files, O: Sink>(
     answering: &mut Answering,
     begun: &mut Vec<u8>,
     end: &[u8],
     files: &mut F,
-) -> Result<(), OutOfMemory> {
+    out: &mut O,
+) -> Result<(), SinkFault>
+    requires begun { HasNoFeed begun.old.items }
+    requires end { HasNoFeed end.now }
+    ensures ok { OnOk result (Reads (F.map files.old)
+        (record { counts = record { misses = F.misses files.old; faults = F.faults files.old }; taken = O.taken out.old; answering = answering.old })
+        (record { counts = record { misses = F.misses files.new; faults = F.faults files.new }; taken = O.taken out.new; answering = answering.new })
+        begun.old.items (end.now ++ (10 ∷ [])) begun.new.items) }
+    ensures err { OnErr result (Halts (F.map files.old)
+        (record { counts = record { misses = F.misses files.old; faults = F.faults files.old }; taken = O.taken out.old; answering = answering.old })
+        (record { misses = F.misses files.new; faults = F.faults files.new }) (O.taken out.new) begun.old.items (end.now ++ (10 ∷ []))) }
+    ensures later { O.faults out.old ≤ O.faults out.new }
+    ensures cause { IsErrOf result SinkFault.Failed → Rose (O.faults out.old) (O.faults out.new) }
+    ensures closed { F.opened files.old ≡ false → F.opened files.new ≡ false }
+    ensures map { F.map files.new ≡ F.map files.old }
+    ensures misses_later { F.misses files.old ≤ F.misses files.new }
+    ensures faults_later { F.faults files.old ≤ F.faults files.new }
+{
+    match gather_ended(answering, begun, end, files) {
+        Ok(()) => answering.write_enough(out),
+        Err(_) => Err(SinkFault::OutOfMemory),
+    }
+}
+
+/// Answers the line that has begun and ends with these bytes. Where memory is refused nothing is said of what has
+/// begun.
+fn gather_ended<F: Files>(
+    answering: &mut Answering,
+    begun: &mut Vec<u8>,
+    end: &[u8],
+    files: &mut F,
+) -> Result<(), OutOfMemory>
+    ensures ok { OnOk result (AnswersOne (F.map files.old) (record { misses = F.misses files.old; faults = F.faults files.old }) (record { misses = F.misses files.new; faults = F.faults files.new })
+        answering.old answering.new (lines.without_cr (begun.old.items ++ end.now))) }
+    ensures begun { OnOk result (begun.new.items ≡ []) }
+    ensures closed { F.opened files.old ≡ false → F.opened files.new ≡ false }
+    ensures map { F.map files.new ≡ F.map files.old }
+    ensures misses_later { F.misses files.old ≤ F.misses files.new }
+    ensures faults_later { F.faults files.old ≤ F.faults files.new }
+{
     if begun.is_empty() {
-        return answering.answer(alloc, without_cr(end), files);
+        return answering.answer(without_cr(end), files);
     }
     begun.extend_from_slice(end)?;
-    answering.answer(alloc, without_cr(begun.as_slice()), files)?;
+    answering.answer(without_cr(begun.as_slice()), files)?;
     begun.clear();
     Ok(())
 }
