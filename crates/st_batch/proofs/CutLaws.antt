@@ -51,9 +51,9 @@ cut_first (b ∷ bs) h = by (b == 10) refl h (cut_first bs)
   where
     by : (t : Bool) → (b == 10) ≡ t → cond (not t) (1 + position_or_len (λ c. c == 10) bs) 0 < length (b ∷ bs)
         → (position_or_len (λ c. c == 10) bs < length bs
-            → CutsAtFeed bs (take (position_or_len (λ c. c == 10) bs) bs) (drop (position_or_len (λ c. c == 10) bs + 1) bs))
+        → CutsAtFeed bs (take (position_or_len (λ c. c == 10) bs) bs) (drop (position_or_len (λ c. c == 10) bs + 1) bs))
         → CutsAtFeed (b ∷ bs) (take (cond (not t) (1 + position_or_len (λ c. c == 10) bs) 0) (b ∷ bs))
-            (drop (cond (not t) (1 + position_or_len (λ c. c == 10) bs) 0 + 1) (b ∷ bs))
+        (drop (cond (not t) (1 + position_or_len (λ c. c == 10) bs) 0 + 1) (b ∷ bs))
     by true e less more = record { whole = ap (λ (n : ℕ). n ∷ bs) (eqb-true b 10 e); no_feed = refl }
     by false e less more = cut_onto b bs (position_or_len (λ c. c == 10) bs) _ _ e (omega arith) (omega arith) (more (omega arith))
 
@@ -155,9 +155,10 @@ ends-longer a s t xs p = λ later.
 -- a text that is cut into lines, and one behind it, end the lines of both
 pub ends-join : (a b s t : List ℕ) (xs ys : List (List ℕ)) → Cuts a s xs b → EndsLines b t ys → EndsLines a (s ++ t) (xs ++ ys)
 ends-join a b s t xs ys p q = λ later.
-    let rest = q later in
-    (rest.0,
-        ap (λ (l : List ℕ). lines_of (a ++ l)) (append_assoc s t later)
-        ∙ p (t ++ later)
-        ∙ ap (λ (l : List (List ℕ)). xs ++ l) rest.1
-        ∙ sym (append_assoc xs ys rest.0))
+    let rest = q later in (
+      rest.0,
+      ap (λ (l : List ℕ). lines_of (a ++ l)) (append_assoc s t later)
+          ∙ p (t ++ later)
+          ∙ ap (λ (l : List (List ℕ)). xs ++ l) rest.1
+          ∙ sym (append_assoc xs ys rest.0),
+    )

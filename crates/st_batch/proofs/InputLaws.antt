@@ -1,5 +1,5 @@
 -- What was answered of the input, and what the output took of it.
-use Rattle.std.proofs.Common.{◌≡◌, ℕ, ◌+◌, ◌-◌, ◌<◌, ◌≤◌, false, ◌||◌, cond, Option, Some, None, List, [], ◌∷◌, ◌++◌, length, take, refl, sym, ◌∙◌, ap, arith, subst, append_assoc, append-nil, length-append}
+use Rattle.std.proofs.Common.{◌≡◌, ℕ, ◌+◌, ◌<◌, ◌≤◌, false, ◌||◌, cond, Option, Some, None, List, [], ◌∷◌, ◌++◌, length, take, refl, sym, ◌∙◌, ap, arith, subst, append-nil, length-append}
 use Rattle.std.specs.Io.KnownBytes.{Appends, Consumes, IsAtEnd}
 use Rattle.std.specs.List.{flat_map, list_any}
 use Rattle.std.proofs.KnownBytes.{Consumes-nil, Consumes-trans}
@@ -8,7 +8,6 @@ use Rattle.st_outside.specs.declared.faults.SinkFault.{SinkFault}
 use Rattle.st_outside.specs.declared.faults.SinkFault.TheVariants as fault
 use Rattle.st_text.specs.Lines.{lines_of}
 use Rattle.st_pool.specs.declared.kernel.Kernel.{Kernel}
-use Rattle.st_batch.specs.declared.answering.Answering.{Answering}
 use Rattle.st_batch.specs.declared.input.TheConstants.{MAX_INPUT}
 use Rattle.st_batch.specs.declared.job.Work.{Work}
 use Rattle.st_batch.specs.declared.job.Work.TheVariants.{Time, Batch}
@@ -16,9 +15,9 @@ use Rattle.st_batch.specs.declared.status.Status.{Status}
 use Rattle.st_batch.specs.declared.status.Status.TheVariants.{Done, SomeRefused, BadWords, BadSetup, ReadFault, WriteFault, OutOfMemory, InputTooLong}
 use Rattle.st_batch.specs.Causes.{Counts}
 use Rattle.st_batch.specs.Outcome.{Outside, line_of, is_refused, WhereTold, IsLongInput}
-use Rattle.st_batch.specs.Progress.{Moment, Stops, Completes, Finishes, stopped_by, HasNoFeed, Cuts, EndsLines, Reads, Halts, ReadsInput, AllAnswered, SomeAnswered, LinesEnd}
+use Rattle.st_batch.specs.Progress.{Moment, Stops, Completes, Finishes, stopped_by, Cuts, EndsLines, Reads, Halts, ReadsInput, AllAnswered, SomeAnswered, LinesEnd}
 use Rattle.st_batch.specs.Words.{AreLines, IsShortInput}
-use Rattle.st_batch.proofs.CutLaws.{cuts-none, ends-none}
+use Rattle.st_batch.proofs.CutLaws.{cuts-none}
 use Rattle.st_batch.proofs.ProgressLaws.{advances-none, finishes-after}
 use Rattle.st_batch.proofs.ReadLaws.{later-same, reads-join, halts-none, halts-after}
 
@@ -87,7 +86,7 @@ pub time-ends : (files : Option Entries) (input : Option (List ℕ)) (text line 
 time-ends files input text line work loaded a now taken status session none fresh e f s =
     let ended = lines-end files input (Time text) a now taken (text ∷ []) status none fresh refl tt (subst (λ (l : List ℕ). Finishes files a now taken (l ∷ []) status) f s) in
     subst (λ (w : Work). WhereTold a.taken taken (λ bytes. LinesEnd (around files input a now) w loaded status bytes)) (sym e)
-        (subst (λ (l : List Kernel). WhereTold a.taken taken (λ bytes. LinesEnd (around files input a now) (Time text) l status bytes)) session ended)
+    (subst (λ (l : List Kernel). WhereTold a.taken taken (λ bytes. LinesEnd (around files input a now) (Time text) l status bytes)) session ended)
 
 -- nothing of the input was read
 pub input-none : (files : Option Entries) (input : Option (List ℕ)) (a : Moment) (begun : List ℕ) → begun ≡ [] → ReadsInput files input input a a begun 0
@@ -149,7 +148,7 @@ input-here : (files : Option Entries) (input left : Option (List ℕ)) (a b : Mo
     → a.answering.gathered.items ≡ [] → ReadsInput files input left a b y n → WhereTold a.taken b.taken P
 input-here files input left a b y n P gives none p =
     input-halts files input left a b.counts b.taken (p.text ++ []) P gives none (subst (λ (l : List ℕ). Consumes input left l) (sym (append-nil p.text)) p.consumed)
-        (halts-after files a b b.counts b.taken [] y p.text [] p.read (halts-none files b b.counts y [] (later-same b.counts)))
+    (halts-after files a b b.counts b.taken [] y p.text [] p.read (halts-none files b b.counts y [] (later-same b.counts)))
 
 -- a read failed
 pub input-fault : (files : Option Entries) (input left : Option (List ℕ)) (a b : Moment) (y : List ℕ) (n : ℕ)
@@ -175,9 +174,9 @@ pub input-stopped : (files same : Option Entries) (input left next : Option (Lis
     → WhereTold a.taken taken (λ bytes. LinesEnd (around files input a now) Batch a.answering.session status bytes)
 input-stopped files same input left next a b now taken y piece n cause status none e f p eats h =
     subst (λ (s : Status). WhereTold a.taken taken (λ bytes. LinesEnd (around files input a now) Batch a.answering.session s bytes)) (sym f)
-        (input-halts files input next a now taken (p.text ++ piece) _ (stopped-end (around files input a now) a.answering.session cause) none
-            (Consumes-trans input left next p.text piece p.consumed eats)
-            (halts-after files a b now taken [] y p.text piece p.read (subst (λ (m : Option Entries). Halts m b now taken y piece) e h)))
+    (input-halts files input next a now taken (p.text ++ piece) _ (stopped-end (around files input a now) a.answering.session cause) none
+    (Consumes-trans input left next p.text piece p.consumed eats)
+    (halts-after files a b now taken [] y p.text piece p.read (subst (λ (m : Option Entries). Halts m b now taken y piece) e h)))
 
 -- the input was read to its end
 pub input-ends : (files same : Option Entries) (input left next : Option (List ℕ)) (a b : Moment) (now : Counts) (taken : Option (List ℕ)) (y begun piece : List ℕ) (n count : ℕ) (status : Status)
@@ -189,6 +188,6 @@ input-ends files same input left next a b now taken y begun piece n count status
     let all : Consumes input next p.text = subst (λ (l : List ℕ). Consumes input next l) (append-nil p.text) (Consumes-trans input left next p.text [] p.consumed last) in
     let rest = subst (λ (l : List ℕ). Finishes files b now taken (lines_of l) status) f (subst (λ (m : Option Entries). Finishes m b now taken (lines_of begun) status) e s) in
     lines-end files input Batch a now taken (p.read.lines ++ lines_of y) status none fresh
-        (lines-whole input next p.text y p.read.lines all end p.read.cuts)
-        (short-input input next p.text all end (omega (arith, p.long)))
-        (finishes-after files a b now taken p.read.lines (lines_of y) status p.read.advanced rest)
+    (lines-whole input next p.text y p.read.lines all end p.read.cuts)
+    (short-input input next p.text all end (omega (arith, p.long)))
+    (finishes-after files a b now taken p.read.lines (lines_of y) status p.read.advanced rest)

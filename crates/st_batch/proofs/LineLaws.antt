@@ -1,5 +1,5 @@
 -- A line has one answer by a loaded list and files that tell their bytes, unless a file is faulty; and every line has one.
-use Rattle.std.proofs.Common.{◌≡◌, ◌≢◌, ℕ, ◌<◌, ◌≤◌, ◌⊎◌, inl, inr, Bool, true, false, Option, Some, None, Result, Ok, Err, ℤ, pos, negsuc, List, [], ◌∷◌, ◌++◌, length, codes, refl, sym, ap, ◌∙◌, subst, arith, bytes_eq}
+use Rattle.std.proofs.Common.{◌≡◌, ◌≢◌, ℕ, ◌<◌, ◌≤◌, ◌⊎◌, inl, inr, Bool, true, false, Option, Some, None, Result, Ok, Err, ℤ, pos, negsuc, List, [], length, codes, refl, sym, ap, ◌∙◌, subst, arith, bytes_eq}
 use Rattle.std.proofs.lemmas.Bool.{cases_Bool, cases_lt, false≢true}
 use Rattle.std.proofs.lemmas.Int.{ints}
 use Rattle.std.specs.Int.{int_div_euclid}
@@ -20,7 +20,7 @@ use Rattle.st_batch.specs.Commands.{IsLoad, IsUnload, IsClear, IsNoCommand, begi
 use Rattle.st_batch.specs.LeapSeconds.{GiveTable, tai_of}
 use Rattle.st_batch.specs.Line.{TimeGives}
 use Rattle.st_batch.specs.Load.{LoadGives}
-use Rattle.st_batch.specs.Session.{IsTruncated, SpellsSeconds, IsLine, IsTime, HaveNoTable, MayRefuse, CarriesOut, Converts, MayAnswer, RunsTo}
+use Rattle.st_batch.specs.Session.{IsTruncated, SpellsSeconds, IsLine, IsTime, MayRefuse, CarriesOut, Converts, MayAnswer}
 use Rattle.st_batch.specs.UtcTime.{IsUtcTime}
 use Rattle.st_batch.specs.UtcTimeMachine.{utc_of_text}
 use Rattle.st_batch.proofs.CommandLaws as command

@@ -12,7 +12,7 @@ use Rattle.st_pool.specs.declared.kernel.Kernel.{Kernel}
 use Rattle.st_batch.specs.declared.fault.LineFault.{LineFault}
 use Rattle.st_batch.specs.declared.fault.LineFault.TheVariants.{BadCommand, LineTooLong, NoFile, FileFault, FileTooLong, KernelText, TooManyKernels, TooManyValues, NotLoaded, NotBuilt, BadTime, OutOfMemory}
 use Rattle.st_batch.specs.declared.load.TheConstants.{MAX_FILE}
-use Rattle.st_batch.specs.Load.{HoldsKernel, HoldsFault, Loads, LoadGives}
+use Rattle.st_batch.specs.Load.{HoldsKernel, LoadGives}
 use Rattle.st_batch.proofs.KernelLaws as kernel
 
 abbrev Loading : Type 0

@@ -1,5 +1,5 @@
 -- Where the files had no fault the definitions allow one whole output.
-use Rattle.std.proofs.Common.{◌≡◌, ◌≢◌, ℕ, ◌+◌, ◌-◌, ◌^◌, ◌<◌, ◌≤◌, ◌⊎◌, inl, inr, cond, count_by, Option, Some, Result, Ok, Err, List, [], ◌∷◌, ◌++◌, codes, refl, sym, ap, ◌∙◌, subst, arith}
+use Rattle.std.proofs.Common.{◌≡◌, ◌≢◌, ℕ, ◌+◌, ◌-◌, ◌^◌, ◌<◌, ◌⊎◌, inl, inr, cond, count_by, Option, Some, Result, Ok, Err, List, [], ◌∷◌, ◌++◌, codes, refl, sym, ap, ◌∙◌, subst, arith}
 use Rattle.std.proofs.lemmas.List.Sums.{sum_by-cons}
 use Rattle.std.specs.List.{flat_map}
 use Rattle.st_outside.specs.Entries.{Entries}
@@ -18,9 +18,9 @@ use Rattle.st_batch.specs.Causes.{RoseBy, is_file_fault}
 use Rattle.st_batch.specs.Laws.{IsComplete, IsTold, OneOutput}
 use Rattle.st_batch.specs.Load.{LoadGives}
 use Rattle.st_batch.specs.Outcome.{Outside, Answered, WordsRefused, SetupRefused, Outcome, line_of, status_of}
-use Rattle.st_batch.specs.Session.{MayAnswer, RunsTo}
+use Rattle.st_batch.specs.Session.{RunsTo}
 use Rattle.st_batch.specs.Texts.{refusal_text}
-use Rattle.st_batch.specs.Words.{AskFor, AreLines}
+use Rattle.st_batch.specs.Words.{AreLines}
 use Rattle.st_batch.proofs.LineLaws.{one-step}
 use Rattle.st_batch.proofs.OneLoad.{one-load}
 use Rattle.st_batch.proofs.WordsLaws.{one-job}

@@ -1,5 +1,5 @@
 -- How the answering of lines comes along.
-use Rattle.std.proofs.Common.{◌≡◌, ℕ, ◌+◌, ◌-◌, ◌^◌, ◌≤◌, min, Bool, true, false, ◌||◌, cond, Option, Some, None, Result, Ok, Err, OnOk, List, [], ◌∷◌, ◌++◌, length, refl, sym, ◌∙◌, ap, arith, subst, append_assoc, append-nil}
+use Rattle.std.proofs.Common.{◌≡◌, ℕ, ◌+◌, ◌≤◌, Bool, true, false, ◌||◌, cond, Option, Result, Ok, Err, OnOk, List, [], ◌∷◌, ◌++◌, refl, sym, ◌∙◌, ap, arith, subst, append_assoc, append-nil}
 use Rattle.std.specs.Io.KnownBytes.{Appends}
 use Rattle.std.specs.List.{flat_map, list_any, count_by}
 use Rattle.std.proofs.KnownBytes.{Appends-nil, Appends-trans}
@@ -15,7 +15,7 @@ use Rattle.st_batch.specs.declared.status.Status.TheVariants.{Done, SomeRefused,
 use Rattle.st_batch.specs.Causes.{Counts, RoseBy, AreCounted, is_no_file, is_file_fault}
 use Rattle.st_batch.specs.Outcome.{line_of, is_refused}
 use Rattle.st_batch.specs.Progress.{Moment, AreLater, AnswersOne, Writes, Advances, Stops, Completes, StopsWithin, Finishes, FinishesWriting}
-use Rattle.st_batch.specs.Session.{MayAnswer, RunsTo}
+use Rattle.st_batch.specs.Session.{RunsTo}
 use Rattle.st_batch.specs.Taken.{TakesPrefix}
 
 -- lines in a row are answered in a row
@@ -223,7 +223,7 @@ completes-after : (files : Option Entries) (a b : Moment) (counts : Counts) (tak
     → Advances files a b xs → Completes files b counts taken ys status → Completes files a counts taken (xs ++ ys) status
 completes-after files a b counts taken xs ys status p q =
     let all = gathered-join a.answering.gathered.items b.answering.gathered.items [] p.written
-        (b.answering.gathered.items ++ flat_map line_of q.answers) p.answers q.answers p.gathered (sym (append-nil _)) in
+    (b.answering.gathered.items ++ flat_map line_of q.answers) p.answers q.answers p.gathered (sym (append-nil _)) in
     record {
       answers = p.answers ++ q.answers;
       after = q.after;

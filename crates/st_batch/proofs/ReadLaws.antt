@@ -1,6 +1,5 @@
 -- How the answering of the lines of a text comes along.
-use Rattle.std.proofs.Common.{◌≡◌, ℕ, ◌+◌, ◌<◌, Option, List, [], ◌∷◌, ◌++◌, length, refl, sym, ◌∙◌, ap, arith, subst, append_assoc, append-nil}
-use Rattle.std.specs.Io.KnownBytes.{Appends}
+use Rattle.std.proofs.Common.{◌≡◌, ℕ, ◌<◌, Option, List, [], ◌∷◌, ◌++◌, length, refl, sym, ◌∙◌, ap, arith, subst, append_assoc}
 use Rattle.st_outside.specs.Entries.{Entries}
 use Rattle.st_text.specs.Lines.{lines_of, without_cr}
 use Rattle.st_text.proofs.Splits.{lines_of-nil}
@@ -21,7 +20,7 @@ pub last-none : (files : Option Entries) (a : Moment) (taken : Option (List ℕ)
     → length begun ≡ 0 → FinishesWriting a.taken taken a.answering status → Finishes files a a.counts taken (lines_of begun) status
 last-none files a taken begun status none end =
     subst (λ (l : List (List ℕ)). Finishes files a a.counts taken l status) (sym (lines_of-nil begun none))
-        (finishes-written files a a a.counts taken [] status (advances-none files a) (later-same a.counts) end)
+    (finishes-written files a a a.counts taken [] status (advances-none files a) (later-same a.counts) end)
 
 -- the begun line is the last one
 pub last-line : (files : Option Entries) (a : Moment) (counts : Counts) (taken : Option (List ℕ)) (begun line : List ℕ) (status : Status)
@@ -35,13 +34,13 @@ pub reads-line : (files : Option Entries) (before now : Counts) (taken then : Op
     → Reads files (record { counts = before; taken = taken; answering = a }) (record { counts = now; taken = then; answering = c }) begun (end ++ (10 ∷ [])) next
 reads-line files before now taken then a b c begun end next p q none one writes =
     subst (λ (l : List ℕ). Reads files (record { counts = before; taken = taken; answering = a }) (record { counts = now; taken = then; answering = c }) begun (end ++ (10 ∷ [])) l)
-        (sym none)
-        (record {
-          lines = without_cr (begun ++ end) ∷ [];
-          cuts = cuts-line begun end p q;
-          advanced = advances-join files _ _ _ (without_cr (begun ++ end) ∷ []) [] (advances-one files before now taken a b _ one) (advances-writes files now taken then b c writes);
-          no_feed = refl;
-        })
+    (sym none)
+    (record {
+      lines = without_cr (begun ++ end) ∷ [];
+      cuts = cuts-line begun end p q;
+      advanced = advances-join files _ _ _ (without_cr (begun ++ end) ∷ []) [] (advances-one files before now taken a b _ one) (advances-writes files now taken then b c writes);
+      no_feed = refl;
+    })
 
 -- the same, but a fault of the output stopped the writing
 pub halts-line : (files : Option Entries) (before now : Counts) (taken then : Option (List ℕ)) (a b : Answering) (begun end : List ℕ)
@@ -106,7 +105,7 @@ pub halts-next : (files same : Option Entries) (a b : Moment) (now : Counts) (ta
 halts-next files same a b now taken x y piece rest end behind e p cut q =
     let halts = subst (λ (f : Option Entries). Halts f b now taken y (end ++ (10 ∷ []))) e q in
     subst (λ (l : List ℕ). Halts files a now taken x l) (sym (piece-cut p.seen rest end behind piece p.whole cut.whole))
-        (halts-longer files a now taken x (p.seen ++ (end ++ (10 ∷ []))) behind (halts-after files a b now taken x y p.seen (end ++ (10 ∷ [])) p.read halts))
+    (halts-longer files a now taken x (p.seen ++ (end ++ (10 ∷ []))) behind (halts-after files a b now taken x y p.seen (end ++ (10 ∷ [])) p.read halts))
 
 -- a piece was read whole, and all that was gathered written
 pub part-last : (files : Option Entries) (counts now : Counts) (before taken then : Option (List ℕ)) (a b c : Answering) (x y z piece rest : List ℕ)
@@ -124,21 +123,21 @@ part-last files counts now before taken then a b c x y z piece rest p none e wri
       no_feed = joined_no_feed y rest p.read.no_feed none;
     } in
     subst (λ (l : List ℕ). Reads files from last x piece l) (sym e)
-        (subst (λ (l : List ℕ). Reads files from last x l (y ++ rest)) (sym p.whole) (reads-join files from to last x y (y ++ rest) p.seen rest p.read tail))
+    (subst (λ (l : List ℕ). Reads files from last x l (y ++ rest)) (sym p.whole) (reads-join files from to last x y (y ++ rest) p.seen rest p.read tail))
 
 -- a fault of the output stopped the writing behind the lines of a piece
 pub halts-last : (files : Option Entries) (a b : Moment) (taken : Option (List ℕ)) (x y piece rest : List ℕ)
     → ReadsPart files a b x piece rest y → TakesPrefix b.taken taken b.answering.gathered.items → Halts files a b.counts taken x piece
 halts-last files a b taken x y piece rest p cut =
     subst (λ (l : List ℕ). Halts files a b.counts taken x l) (sym p.whole)
-        (halts-longer files a b.counts taken x p.seen rest (record {
-          lines = p.read.lines;
-          ends = ends-cut x y p.seen p.read.lines p.read.cuts;
-          stopped = stops-cut files a b b.counts taken p.read.lines p.read.advanced (later-same b.counts) cut;
-        }))
+    (halts-longer files a b.counts taken x p.seen rest (record {
+      lines = p.read.lines;
+      ends = ends-cut x y p.seen p.read.lines p.read.cuts;
+      stopped = stops-cut files a b b.counts taken p.read.lines p.read.advanced (later-same b.counts) cut;
+    }))
 
 -- something else stopped the answering behind the lines of a piece
 pub halts-behind : (files : Option Entries) (a b : Moment) (x y piece rest : List ℕ) → ReadsPart files a b x piece rest y → Halts files a b.counts b.taken x piece
 halts-behind files a b x y piece rest p =
     subst (λ (l : List ℕ). Halts files a b.counts b.taken x l) (sym p.whole)
-        (halts-after files a b b.counts b.taken x y p.seen rest p.read (halts-none files b b.counts y rest (later-same b.counts)))
+    (halts-after files a b b.counts b.taken x y p.seen rest p.read (halts-none files b b.counts y rest (later-same b.counts)))

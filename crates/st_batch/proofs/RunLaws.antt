@@ -1,7 +1,6 @@
 -- What a run wrote is what it may write, by how it ended.
-use Rattle.std.proofs.Common.{◌≡◌, ◌≢◌, ℕ, ◌+◌, ◌-◌, ◌^◌, ◌≤◌, min, count_by, ◌⊎◌, inl, inr, Option, Some, None, Result, Ok, Err, List, [], ◌∷◌, ◌++◌, codes, refl, sym, ap, ◌∙◌, subst, arith}
+use Rattle.std.proofs.Common.{◌≡◌, ◌≢◌, ℕ, ◌≤◌, count_by, ◌⊎◌, inl, inr, Option, Some, None, Result, Ok, Err, List, [], ◌∷◌, ◌++◌, codes, refl, sym, ap, ◌∙◌, subst, arith}
 use Rattle.std.proofs.KnownBytes.{Appends-nil}
-use Rattle.std.specs.Io.KnownBytes.{Appends}
 use Rattle.st_outside.specs.Causes.{Rose}
 use Rattle.st_outside.specs.Entries.{Entries}
 use Rattle.st_pool.specs.declared.kernel.Kernel.{Kernel}
@@ -18,7 +17,7 @@ use Rattle.st_batch.specs.declared.status.Status.{Status}
 use Rattle.st_batch.specs.declared.status.Status.TheVariants.{Done, SomeRefused, BadWords, BadSetup, ReadFault, WriteFault, OutOfMemory, InputTooLong}
 use Rattle.st_batch.specs.Causes.{Counts, RoseBy, AreCounted, is_file_fault, IsCaused, IsSetupCaused, IsStatusCaused}
 use Rattle.st_batch.specs.Load.{LoadGives, LoadRefuses}
-use Rattle.st_batch.specs.Outcome.{Outside, Answered, BeginsAnswers, BeginsAllowed, SetupRefused, WordsRefused, Outcome, WhereTold, ReadsAll, ReadsNothing}
+use Rattle.st_batch.specs.Outcome.{Outside, Answered, BeginsAnswers, BeginsAllowed, Outcome, WhereTold, ReadsAll, ReadsNothing}
 use Rattle.st_batch.specs.Progress.{AllAnswered, SomeAnswered, LinesEnd, IsOfLines, IsWhole}
 use Rattle.st_batch.specs.Texts.{refusal_text}
 use Rattle.st_batch.specs.Words.{AskFor, AskForNone, AreLines}

@@ -9,8 +9,7 @@ use Rattle.st_batch.specs.declared.answer.Answer.TheVariants.{Text, Refused}
 use Rattle.st_batch.specs.declared.fault.WordFault.TheVariants.{NotBuilt}
 use Rattle.st_batch.specs.declared.fault.LineFault.{LineFault}
 use Rattle.st_batch.specs.declared.job.Job.{Job}
-use Rattle.st_batch.specs.declared.job.Work.{Work}
-use Rattle.st_batch.specs.declared.job.Work.TheVariants.{Time, Batch}
+use Rattle.st_batch.specs.declared.job.Work.TheVariants.{Batch}
 use Rattle.st_batch.specs.declared.status.Status.{Status}
 use Rattle.st_batch.specs.declared.status.Status.TheVariants.{Done, SomeRefused, BadWords, BadSetup, ReadFault, WriteFault, OutOfMemory, InputTooLong}
 use Rattle.st_batch.specs.Causes.{Counts, AreCounted, RoseBy, is_file_fault}

@@ -11,7 +11,7 @@ use Rattle.st_batch.specs.declared.answer.Answer.{Answer}
 use Rattle.st_batch.specs.declared.answering.Answering.{Answering}
 use Rattle.st_batch.specs.declared.job.Work.{Work}
 use Rattle.st_batch.specs.declared.status.Status.{Status}
-use Rattle.st_batch.specs.declared.status.Status.TheVariants.{Done, SomeRefused, BadWords, BadSetup, ReadFault, WriteFault, OutOfMemory, InputTooLong}
+use Rattle.st_batch.specs.declared.status.Status.TheVariants.{Done, SomeRefused, BadWords, BadSetup, WriteFault, OutOfMemory, InputTooLong}
 use Rattle.st_batch.specs.Causes.{Counts, AreCounted}
 use Rattle.st_batch.specs.Outcome.{Outside, line_of, is_refused, status_of, IsLongInput}
 use Rattle.st_batch.specs.Session.{MayAnswer, RunsTo}

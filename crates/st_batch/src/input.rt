@@ -34,10 +34,10 @@ pub fn answer_lines<F: Files, I: Source, O: Sink>(
 ) -> Status
     ensures told { WhereTold (O.taken out.old) (O.taken out.new) (λ bytes. LinesEnd
         (record {
-            files = F.map files.old;
-            input = I.left input.old;
-            before = record { misses = F.misses files.old; faults = F.faults files.old };
-            now = record { misses = F.misses files.new; faults = F.faults files.new }
+          files = F.map files.old;
+          input = I.left input.old;
+          before = record { misses = F.misses files.old; faults = F.faults files.old };
+          now = record { misses = F.misses files.new; faults = F.faults files.new };
         }) work.now session result bytes) }
     ensures of_lines { IsOfLines result }
     ensures write_fault { result ≡ Status.WriteFault → Rose (O.faults out.old) (O.faults out.new) }
@@ -70,10 +70,10 @@ fn answer_input<F: Files, I: Source, O: Sink>(
     requires refused { answering.old.refused ≡ false }
     ensures told { WhereTold (O.taken out.old) (O.taken out.new) (λ bytes. LinesEnd
         (record {
-            files = F.map files.old;
-            input = I.left input.old;
-            before = record { misses = F.misses files.old; faults = F.faults files.old };
-            now = record { misses = F.misses files.new; faults = F.faults files.new }
+          files = F.map files.old;
+          input = I.left input.old;
+          before = record { misses = F.misses files.old; faults = F.faults files.old };
+          now = record { misses = F.misses files.new; faults = F.faults files.new };
         }) Batch answering.old.session result bytes) }
     ensures of_lines { IsOfLines result }
     ensures write_fault { result ≡ Status.WriteFault → Rose (O.faults out.old) (O.faults out.new) }

@@ -22,7 +22,7 @@ returns-in-Err-clause-told g c = input-fault _ _ _ _ _ _ _ c.requires.gathered c
 pub returns-then-count-eq0-clause-told : goal.returns-then-count-eq0-clause-told
 returns-then-count-eq0-clause-told g c =
     input-ends _ _ _ _ _ _ _ _ _ _ _ _ _ _ _ c.requires.gathered c.requires.refused c.loop-read.invariant.map c.as_slice.ensures.value c.if-count-eq0.true
-        c.loop-read.invariant.few c.loop-read.invariant.come c.in-Ok.ensures.bytes.0 (c.in-Ok.ensures.bytes.1 c.if-count-eq0.true (omega (arith, c.read.auto.buf, c.loop-read.invariant.room))) c.answer_last.ensures.finished
+    c.loop-read.invariant.few c.loop-read.invariant.come c.in-Ok.ensures.bytes.0 (c.in-Ok.ensures.bytes.1 c.if-count-eq0.true (omega (arith, c.read.auto.buf, c.loop-read.invariant.room))) c.answer_last.ensures.finished
 
 pub returns-then-count-read-clause-told : goal.returns-then-count-read-clause-told
 returns-then-count-read-clause-told g c =

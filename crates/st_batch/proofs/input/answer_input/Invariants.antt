@@ -8,12 +8,12 @@ invariant-loop-read g l = record {
       (record {
         counts = record { misses = g.F.Files.misses l.fn.files; faults = g.F.Files.faults l.fn.files };
         taken = g.O.Sink.taken l.fn.out;
-        answering = l.fn.answering
+        answering = l.fn.answering;
       })
       (record {
         counts = record { misses = g.F.Files.misses l.files; faults = g.F.Files.faults l.files };
         taken = g.O.Sink.taken l.out;
-        answering = l.answering
+        answering = l.answering;
       })
       l.begun.items l.read;
   few : l.read ≤ 67108864;

@@ -1,5 +1,5 @@
 use Rattle.std.proofs.Common.{arith}
-use Rattle.st_batch.proofs.ProgressLaws.{advances-none, advances-one, finishes-written, within-none}
+use Rattle.st_batch.proofs.ProgressLaws.{advances-one, finishes-written, within-none}
 use Rattle.st_batch.proofs.input.answer_one.Goals as goal
 
 pub returns-in-Ok-clause-finished : goal.returns-in-Ok-clause-finished

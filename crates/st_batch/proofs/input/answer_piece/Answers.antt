@@ -30,8 +30,8 @@ returns-in-Err-clause-err g c = halts-next _ _ _ _ _ _ _ _ _ _ _ _ c.loop-end.in
 pub returns-in-Ok-extend_from_slice-clause-ok : goal.returns-in-Ok-extend_from_slice-clause-ok
 returns-in-Ok-extend_from_slice-clause-ok g c =
     on_ok_weaker c.write.result
-        (λ writes. part-last _ _ _ _ _ _ _ _ _ _ _ _ _ _ c.loop-end.invariant.part c.in_default.ensures c.in-Ok-extend_from_slice.ensures.items writes)
-        (writes-ok c.write.result _ _ _ _ c.write.ensures.ok c.write.ensures.gathered c.write.ensures.session c.write.ensures.refused)
+    (λ writes. part-last _ _ _ _ _ _ _ _ _ _ _ _ _ _ c.loop-end.invariant.part c.in_default.ensures c.in-Ok-extend_from_slice.ensures.items writes)
+    (writes-ok c.write.result _ _ _ _ c.write.ensures.ok c.write.ensures.gathered c.write.ensures.session c.write.ensures.refused)
 
 pub returns-in-Ok-extend_from_slice-clause-err : goal.returns-in-Ok-extend_from_slice-clause-err
 returns-in-Ok-extend_from_slice-clause-err g c =

@@ -8,12 +8,12 @@ invariant-loop-end g l = record {
       (record {
         counts = record { misses = g.F.Files.misses l.fn.files; faults = g.F.Files.faults l.fn.files };
         taken = g.O.Sink.taken l.fn.out;
-        answering = l.fn.answering
+        answering = l.fn.answering;
       })
       (record {
         counts = record { misses = g.F.Files.misses l.files; faults = g.F.Files.faults l.files };
         taken = g.O.Sink.taken l.out;
-        answering = l.answering
+        answering = l.answering;
       })
       l.fn.begun.items l.fn.piece l.rest l.begun.items;
   output : g.O.Sink.faults l.fn.out ≤ g.O.Sink.faults l.out;

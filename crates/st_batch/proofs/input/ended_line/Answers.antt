@@ -1,4 +1,3 @@
-use Rattle.std.proofs.Common.{sym, ◌∙◌}
 use Rattle.st_batch.proofs.CutLaws.{cut_at, no_feed_from}
 use Rattle.st_batch.proofs.input.ended_line.Goals as goal
 

@@ -1,4 +1,4 @@
-use Rattle.std.proofs.Common.{Err, List, ℕ, map, string_bytes, ap, arith}
+use Rattle.std.proofs.Common.{Err, map, string_bytes, ap, arith}
 use Rattle.st_batch.specs.Causes.{Counts}
 use Rattle.st_batch.proofs.RunLaws.{outside, words-outcome, nothing-of-words, no-input, reads-all, job-fits}
 use Rattle.st_batch.proofs.WordsLaws.{one-job, told-job}

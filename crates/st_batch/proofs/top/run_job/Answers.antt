@@ -1,6 +1,5 @@
-use Rattle.std.proofs.Common.{refl, Ok, sym, ◌∙◌, Option, List, [], ℕ, subst}
+use Rattle.std.proofs.Common.{refl, Ok, ◌∙◌, List, [], ℕ, subst}
 use Rattle.st_outside.specs.Causes.{Rose, RoseBeyond}
-use Rattle.st_outside.specs.Entries.{Entries}
 use Rattle.st_batch.specs.Causes.{Counts}
 use Rattle.st_batch.specs.Load.{LoadGives, LoadRefuses}
 use Rattle.st_batch.proofs.RunLaws.{lines-outcome, nothing-of-job, setup-outcome, setup-counted, setup-caused, load-refused, delivered-caused, delivered-of-job, setup_line, outside, lines-caused, lines-of-job, lines-no-input, delivered-of-setup, not-read, not-whole}
