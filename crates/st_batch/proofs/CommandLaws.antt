@@ -8,7 +8,7 @@ use Rattle.std.proofs.lemmas.Str.{IsUtf8-from_is_utf8, is_utf8-from_IsUtf8}
 use Rattle.std.specs.Str.{bytes_eq, is_utf8}
 use Rattle.st_text.specs.Bytes.{is_blank, are_blanks}
 use Rattle.st_text.specs.Lines.{skip_blanks}
-use Rattle.st_batch.specs.Commands.{IsFileName, Names, IsLoad, IsUnload, begins_command}
+use Rattle.st_batch.specs.Commands.{IsFileName, NamesFile, IsLoad, IsUnload, begins_command}
 use Rattle.st_batch.specs.declared.command.TheConstants.{MAX_NAME}
 use Rattle.st_batch.proofs.Tests.{and-left, and-right}
 
@@ -36,13 +36,13 @@ skips (b ∷ text) =
     ]
 
 -- the name is what stands behind the word and its blanks
-pub behind-word : (word text behind name : List ℕ) → text ≡ word ++ behind → Names word text name → (skip_blanks behind ≡ name) × (length name < length behind)
+pub behind-word : (word text behind name : List ℕ) → text ≡ word ++ behind → NamesFile word text name → (skip_blanks behind ≡ name) × (length name < length behind)
 behind-word word text behind name e h =
     let same : behind ≡ h.blanks ++ name =
     sym (drop-append_seam word behind) ∙ ap (λ (t : List ℕ). drop (length word) t) (sym e ∙ h.spelled) ∙ drop-append_seam word (h.blanks ++ name) in
     (ap skip_blanks same ∙ skip-front h.blanks name h.blank ∙ h.behind, omega (arith, h.some, ap (λ (t : List ℕ). length t) same, length-append h.blanks name))
 
-pub name-behind : (word text behind : List ℕ) → text ≡ word ++ behind → length (skip_blanks behind) < length behind → IsFileName (skip_blanks behind) → Names word text (skip_blanks behind)
+pub name-behind : (word text behind : List ℕ) → text ≡ word ++ behind → length (skip_blanks behind) < length behind → IsFileName (skip_blanks behind) → NamesFile word text (skip_blanks behind)
 name-behind word text behind e more is =
     let s = skips behind in
     record {
@@ -59,7 +59,7 @@ pub begins : (word text : List ℕ) → bytes_eq (take (length word) text) word 
 begins word text h =
     sym (take-append-drop (length word) text) ∙ ap (λ (t : List ℕ). t ++ drop (length word) text) ((bytes_eq-Decides (take (length word) text) word).0 h)
 
-pub begins-not : (word text : List ℕ) → bytes_eq (take (length word) text) word ≡ false → (name : List ℕ) → Names word text name → ⊥
+pub begins-not : (word text : List ℕ) → bytes_eq (take (length word) text) word ≡ false → (name : List ℕ) → NamesFile word text name → ⊥
 begins-not word text n name h =
     let front : take (length word) text ≡ word = ap (λ (t : List ℕ). take (length word) t) h.spelled ∙ take-append_seam word (h.blanks ++ name) in
     false≢true (sym n ∙ (bytes_eq-Decides (take (length word) text) word).1 front)
@@ -68,13 +68,13 @@ begins-not word text n name h =
 pub stripped : (word text behind : List ℕ) → bytes_eq (take (length word) text) word ≡ true → behind ≡ drop (length word) text → text ≡ word ++ behind
 stripped word text behind h e = begins word text h ∙ ap (λ (t : List ℕ). word ++ t) (sym e)
 
-pub named : (word text behind name : List ℕ) → text ≡ word ++ behind → name ≡ skip_blanks behind → length name < length behind → IsFileName name → Names word text name
+pub named : (word text behind name : List ℕ) → text ≡ word ++ behind → name ≡ skip_blanks behind → length name < length behind → IsFileName name → NamesFile word text name
 named word text behind name e same more is =
     let P : List ℕ → Type 0 = λ n. length n < length behind in
-    subst (Names word text) (sym same) (name-behind word text behind e (subst P same more) (subst IsFileName same is))
+    subst (NamesFile word text) (sym same) (name-behind word text behind e (subst P same more) (subst IsFileName same is))
 
 -- what was read as the name is the one that the text names
-pub named-is : (word text behind read name : List ℕ) → text ≡ word ++ behind → read ≡ skip_blanks behind → Names word text name → IsFileName read × (length read < length behind)
+pub named-is : (word text behind read name : List ℕ) → text ≡ word ++ behind → read ≡ skip_blanks behind → NamesFile word text name → IsFileName read × (length read < length behind)
 named-is word text behind read name e same h =
     let b = behind-word word text behind name e h in
     let is : name ≡ read = sym b.0 ∙ sym same in
@@ -82,11 +82,11 @@ named-is word text behind read name e same h =
     (subst IsFileName is h.is_name, subst P is b.1)
 
 -- a text names one name behind a word
-pub read-name : (word text name : List ℕ) → Names word text name → skip_blanks (drop (length word) text) ≡ name
+pub read-name : (word text name : List ℕ) → NamesFile word text name → skip_blanks (drop (length word) text) ≡ name
 read-name word text name h =
     ap (λ (t : List ℕ). skip_blanks (drop (length word) t)) h.spelled ∙ ap skip_blanks (drop-append_seam word (h.blanks ++ name)) ∙ skip-front h.blanks name h.blank ∙ h.behind
 
-pub one-name : (word text a b : List ℕ) → Names word text a → Names word text b → a ≡ b
+pub one-name : (word text a b : List ℕ) → NamesFile word text a → NamesFile word text b → a ≡ b
 one-name word text a b h k = sym (read-name word text a h) ∙ read-name word text b k
 
 -- a text is one command at most, by its second byte
@@ -126,7 +126,7 @@ told-file-name name =
       ]
     ]
 
-told-behind : (word text behind : List ℕ) → text ≡ word ++ behind → ((name : List ℕ) × Names word text name) ⊎ ((name : List ℕ) → Names word text name → ⊥)
+told-behind : (word text behind : List ℕ) → text ≡ word ++ behind → ((name : List ℕ) × NamesFile word text name) ⊎ ((name : List ℕ) → NamesFile word text name → ⊥)
 told-behind word text behind e =
     elim (cases_lt (length (skip_blanks behind)) (length behind)) [
       | inr none ↦ inr (λ name h. few name (behind-word word text behind name e h) none)
@@ -139,7 +139,7 @@ told-behind word text behind e =
     few : (name : List ℕ) → (skip_blanks behind ≡ name) × (length name < length behind) → length behind ≤ length (skip_blanks behind) → ⊥
     few name (same, less) none = omega (arith, ap (λ (t : List ℕ). length t) same)
 
-pub told-name : (word text : List ℕ) → ((name : List ℕ) × Names word text name) ⊎ ((name : List ℕ) → Names word text name → ⊥)
+pub told-name : (word text : List ℕ) → ((name : List ℕ) × NamesFile word text name) ⊎ ((name : List ℕ) → NamesFile word text name → ⊥)
 told-name word text =
     elim (cases_Bool (bytes_eq (take (length word) text) word)) [
       | inl y ↦ told-behind word text (drop (length word) text) (begins word text y)

@@ -13,8 +13,8 @@ use Rattle.st_batch.specs.declared.job.Work.{Work}
 use Rattle.st_batch.specs.declared.job.Work.TheVariants.{Time, Batch}
 use Rattle.st_batch.specs.declared.status.Status.{Status}
 use Rattle.st_batch.specs.declared.status.Status.TheVariants.{Done, SomeRefused, BadWords, BadSetup, ReadFault, WriteFault, OutOfMemory, InputTooLong}
-use Rattle.st_batch.specs.Causes.{Counts}
-use Rattle.st_batch.specs.Outcome.{Outside, line_of, is_refused, WhereTold, IsLongInput}
+use Rattle.st_batch.specs.Causes.{FileCounts}
+use Rattle.st_batch.specs.Outcome.{Outside, line_of, is_refused, Took, IsLongInput}
 use Rattle.st_batch.specs.Progress.{Moment, Stops, Completes, Finishes, stopped_by, Cuts, EndsLines, Reads, Halts, ReadsInput, AllAnswered, SomeAnswered, LinesEnd}
 use Rattle.st_batch.specs.Words.{AreLines, IsShortInput}
 use Rattle.st_batch.proofs.CutLaws.{cuts-none}
@@ -22,18 +22,17 @@ use Rattle.st_batch.proofs.ProgressLaws.{advances-none, finishes-after}
 use Rattle.st_batch.proofs.ReadLaws.{later-same, reads-join, halts-none, halts-after}
 
 -- what stands around the answering from a moment on
-abbrev around : Option Entries → Option (List ℕ) → Moment → Counts → Outside
+abbrev around : Option Entries → Option (List ℕ) → Moment → FileCounts → Outside
 around files input a now = record { files = files; input = input; before = a.counts; now = now }
 
 -- the output took bytes that meet a condition
-told : (before now : Option (List ℕ)) (bytes : List ℕ) (P : List ℕ → Type 0) → Appends before now bytes → P bytes → WhereTold before now P
-told None now bytes P p q = tt
-told (Some xs) now bytes P p q = (bytes, p, q)
+told : (before now : Option (List ℕ)) (bytes : List ℕ) (P : List ℕ → Type 0) → Appends before now bytes → P bytes → Took before now P
+told before now bytes P p q = (bytes, p, q)
 
 -- from a moment at which nothing is gathered on some first lines were answered
-some-answered : (files : Option Entries) (input : Option (List ℕ)) (work : Work) (a : Moment) (now : Counts) (taken : Option (List ℕ)) (lines more : List (List ℕ))
+some-answered : (files : Option Entries) (input : Option (List ℕ)) (work : Work) (a : Moment) (now : FileCounts) (taken : Option (List ℕ)) (lines more : List (List ℕ))
     (P : List ℕ → Type 0) → ((bytes : List ℕ) → SomeAnswered (around files input a now) work a.answering.session bytes → P bytes)
-    → a.answering.gathered.items ≡ [] → AreLines work input (lines ++ more) → Stops files a now taken lines → WhereTold a.taken taken P
+    → a.answering.gathered.items ≡ [] → AreLines work input (lines ++ more) → Stops files a now taken lines → Took a.taken taken P
 some-answered files input work a now taken lines more P gives none are s =
     told a.taken taken s.written P s.appended (gives s.written (record {
       lines = lines;
@@ -48,9 +47,9 @@ some-answered files input work a now taken lines more P gives none are s =
     }))
 
 -- from such a moment on, at which no line is refused, all lines were answered
-all-answered : (files : Option Entries) (input : Option (List ℕ)) (work : Work) (a : Moment) (now : Counts) (taken : Option (List ℕ)) (lines : List (List ℕ)) (status : Status)
+all-answered : (files : Option Entries) (input : Option (List ℕ)) (work : Work) (a : Moment) (now : FileCounts) (taken : Option (List ℕ)) (lines : List (List ℕ)) (status : Status)
     → a.answering.gathered.items ≡ [] → a.answering.refused ≡ false → AreLines work input lines → IsShortInput work input → Completes files a now taken lines status
-    → WhereTold a.taken taken (λ bytes. AllAnswered (around files input a now) work a.answering.session status bytes)
+    → Took a.taken taken (λ bytes. AllAnswered (around files input a now) work a.answering.session status bytes)
 all-answered files input work a now taken lines status none fresh are short s =
     told a.taken taken (flat_map line_of s.answers) _ (subst (λ (l : List ℕ). Appends a.taken taken (l ++ flat_map line_of s.answers)) none s.appended) (record {
       lines = lines;
@@ -65,9 +64,9 @@ all-answered files input work a now taken lines status none fresh are short s =
     })
 
 -- lines that are at hand were answered, as far as the run came
-pub lines-end : (files : Option Entries) (input : Option (List ℕ)) (work : Work) (a : Moment) (now : Counts) (taken : Option (List ℕ)) (lines : List (List ℕ)) (status : Status)
+pub lines-end : (files : Option Entries) (input : Option (List ℕ)) (work : Work) (a : Moment) (now : FileCounts) (taken : Option (List ℕ)) (lines : List (List ℕ)) (status : Status)
     → a.answering.gathered.items ≡ [] → a.answering.refused ≡ false → AreLines work input lines → IsShortInput work input → Finishes files a now taken lines status
-    → WhereTold a.taken taken (λ bytes. LinesEnd (around files input a now) work a.answering.session status bytes)
+    → Took a.taken taken (λ bytes. LinesEnd (around files input a now) work a.answering.session status bytes)
 lines-end files input work a now taken lines Done none fresh are short s = all-answered files input work a now taken lines Done none fresh are short s
 lines-end files input work a now taken lines SomeRefused none fresh are short s = all-answered files input work a now taken lines SomeRefused none fresh are short s
 lines-end files input work a now taken lines WriteFault none fresh are short s =
@@ -80,13 +79,13 @@ lines-end files input work a now taken lines ReadFault none fresh are short s = 
 lines-end files input work a now taken lines InputTooLong none fresh are short s = absurd s
 
 -- the one line of the words was answered
-pub time-ends : (files : Option Entries) (input : Option (List ℕ)) (text line : List ℕ) (work : Work) (loaded : List Kernel) (a : Moment) (now : Counts) (taken : Option (List ℕ)) (status : Status)
+pub time-ends : (files : Option Entries) (input : Option (List ℕ)) (text line : List ℕ) (work : Work) (loaded : List Kernel) (a : Moment) (now : FileCounts) (taken : Option (List ℕ)) (status : Status)
     → a.answering.session ≡ loaded → a.answering.gathered.items ≡ [] → a.answering.refused ≡ false → work ≡ Time text → line ≡ text → Finishes files a now taken (line ∷ []) status
-    → WhereTold a.taken taken (λ bytes. LinesEnd (around files input a now) work loaded status bytes)
+    → Took a.taken taken (λ bytes. LinesEnd (around files input a now) work loaded status bytes)
 time-ends files input text line work loaded a now taken status session none fresh e f s =
     let ended = lines-end files input (Time text) a now taken (text ∷ []) status none fresh refl tt (subst (λ (l : List ℕ). Finishes files a now taken (l ∷ []) status) f s) in
-    subst (λ (w : Work). WhereTold a.taken taken (λ bytes. LinesEnd (around files input a now) w loaded status bytes)) (sym e)
-    (subst (λ (l : List Kernel). WhereTold a.taken taken (λ bytes. LinesEnd (around files input a now) (Time text) l status bytes)) session ended)
+    subst (λ (w : Work). Took a.taken taken (λ bytes. LinesEnd (around files input a now) w loaded status bytes)) (sym e)
+    (subst (λ (l : List Kernel). Took a.taken taken (λ bytes. LinesEnd (around files input a now) (Time text) l status bytes)) session ended)
 
 -- nothing of the input was read
 pub input-none : (files : Option Entries) (input : Option (List ℕ)) (a : Moment) (begun : List ℕ) → begun ≡ [] → ReadsInput files input input a a begun 0
@@ -135,9 +134,9 @@ long-input (Some xs) None text p many = absurd p
 long-input (Some xs) (Some ys) text p many = omega (arith, ap length p, length-append text ys)
 
 -- the answering of what was read stopped
-input-halts : (files : Option Entries) (input left : Option (List ℕ)) (a : Moment) (now : Counts) (taken : Option (List ℕ)) (text : List ℕ)
+input-halts : (files : Option Entries) (input left : Option (List ℕ)) (a : Moment) (now : FileCounts) (taken : Option (List ℕ)) (text : List ℕ)
     (P : List ℕ → Type 0) → ((bytes : List ℕ) → SomeAnswered (around files input a now) Batch a.answering.session bytes → P bytes)
-    → a.answering.gathered.items ≡ [] → Consumes input left text → Halts files a now taken [] text → WhereTold a.taken taken P
+    → a.answering.gathered.items ≡ [] → Consumes input left text → Halts files a now taken [] text → Took a.taken taken P
 input-halts files input left a now taken text P gives none eats h =
     let more = lines-begin input left text h.lines eats h.ends in
     some-answered files input Batch a now taken h.lines more.0 P gives none more.1 h.stopped
@@ -145,7 +144,7 @@ input-halts files input left a now taken text P gives none eats h =
 -- what was read was answered, and then nothing more
 input-here : (files : Option Entries) (input left : Option (List ℕ)) (a b : Moment) (y : List ℕ) (n : ℕ)
     (P : List ℕ → Type 0) → ((bytes : List ℕ) → SomeAnswered (around files input a b.counts) Batch a.answering.session bytes → P bytes)
-    → a.answering.gathered.items ≡ [] → ReadsInput files input left a b y n → WhereTold a.taken b.taken P
+    → a.answering.gathered.items ≡ [] → ReadsInput files input left a b y n → Took a.taken b.taken P
 input-here files input left a b y n P gives none p =
     input-halts files input left a b.counts b.taken (p.text ++ []) P gives none (subst (λ (l : List ℕ). Consumes input left l) (sym (append-nil p.text)) p.consumed)
     (halts-after files a b b.counts b.taken [] y p.text [] p.read (halts-none files b b.counts y [] (later-same b.counts)))
@@ -153,13 +152,13 @@ input-here files input left a b y n P gives none p =
 -- a read failed
 pub input-fault : (files : Option Entries) (input left : Option (List ℕ)) (a b : Moment) (y : List ℕ) (n : ℕ)
     → a.answering.gathered.items ≡ [] → ReadsInput files input left a b y n
-    → WhereTold a.taken b.taken (λ bytes. LinesEnd (around files input a b.counts) Batch a.answering.session ReadFault bytes)
+    → Took a.taken b.taken (λ bytes. LinesEnd (around files input a b.counts) Batch a.answering.session ReadFault bytes)
 input-fault files input left a b y n none p = input-here files input left a b y n _ (λ bytes s. s) none p
 
 -- the input was too long
 pub input-long : (files : Option Entries) (input left next : Option (List ℕ)) (a b : Moment) (y piece : List ℕ) (n : ℕ)
     → a.answering.gathered.items ≡ [] → MAX_INPUT < n + length piece → ReadsInput files input left a b y n → Consumes left next piece
-    → WhereTold a.taken b.taken (λ bytes. LinesEnd (around files input a b.counts) Batch a.answering.session InputTooLong bytes)
+    → Took a.taken b.taken (λ bytes. LinesEnd (around files input a b.counts) Batch a.answering.session InputTooLong bytes)
 input-long files input left next a b y piece n none many p eats =
     let long = long-input input next (p.text ++ piece) (Consumes-trans input left next p.text piece p.consumed eats) (omega (arith, length-append p.text piece, p.long)) in
     input-here files input left a b y n _ (λ bytes s. (s, long)) none p
@@ -169,20 +168,20 @@ stopped-end o loaded fault.Failed bytes s = s
 stopped-end o loaded fault.OutOfMemory bytes s = s
 
 -- the answering of a piece stopped
-pub input-stopped : (files same : Option Entries) (input left next : Option (List ℕ)) (a b : Moment) (now : Counts) (taken : Option (List ℕ)) (y piece : List ℕ) (n : ℕ) (cause : SinkFault) (status : Status)
+pub input-stopped : (files same : Option Entries) (input left next : Option (List ℕ)) (a b : Moment) (now : FileCounts) (taken : Option (List ℕ)) (y piece : List ℕ) (n : ℕ) (cause : SinkFault) (status : Status)
     → a.answering.gathered.items ≡ [] → same ≡ files → status ≡ stopped_by cause → ReadsInput files input left a b y n → Consumes left next piece → Halts same b now taken y piece
-    → WhereTold a.taken taken (λ bytes. LinesEnd (around files input a now) Batch a.answering.session status bytes)
+    → Took a.taken taken (λ bytes. LinesEnd (around files input a now) Batch a.answering.session status bytes)
 input-stopped files same input left next a b now taken y piece n cause status none e f p eats h =
-    subst (λ (s : Status). WhereTold a.taken taken (λ bytes. LinesEnd (around files input a now) Batch a.answering.session s bytes)) (sym f)
+    subst (λ (s : Status). Took a.taken taken (λ bytes. LinesEnd (around files input a now) Batch a.answering.session s bytes)) (sym f)
     (input-halts files input next a now taken (p.text ++ piece) _ (stopped-end (around files input a now) a.answering.session cause) none
     (Consumes-trans input left next p.text piece p.consumed eats)
     (halts-after files a b now taken [] y p.text piece p.read (subst (λ (m : Option Entries). Halts m b now taken y piece) e h)))
 
 -- the input was read to its end
-pub input-ends : (files same : Option Entries) (input left next : Option (List ℕ)) (a b : Moment) (now : Counts) (taken : Option (List ℕ)) (y begun piece : List ℕ) (n count : ℕ) (status : Status)
+pub input-ends : (files same : Option Entries) (input left next : Option (List ℕ)) (a b : Moment) (now : FileCounts) (taken : Option (List ℕ)) (y begun piece : List ℕ) (n count : ℕ) (status : Status)
     → a.answering.gathered.items ≡ [] → a.answering.refused ≡ false → same ≡ files → begun ≡ y → count ≡ 0 → n ≤ MAX_INPUT
     → ReadsInput files input left a b y n → Consumes left next (take count piece) → IsAtEnd next → Finishes same b now taken (lines_of begun) status
-    → WhereTold a.taken taken (λ bytes. LinesEnd (around files input a now) Batch a.answering.session status bytes)
+    → Took a.taken taken (λ bytes. LinesEnd (around files input a now) Batch a.answering.session status bytes)
 input-ends files same input left next a b now taken y begun piece n count status none fresh e f zero few p eats end s =
     let last : Consumes left next [] = subst (λ (k : ℕ). Consumes left next (take k piece)) zero eats in
     let all : Consumes input next p.text = subst (λ (l : List ℕ). Consumes input next l) (append-nil p.text) (Consumes-trans input left next p.text [] p.consumed last) in

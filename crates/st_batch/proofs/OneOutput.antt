@@ -89,20 +89,20 @@ given-of o files setup other r e f h =
 abbrev IsSame : Status → Status → List ℕ → List ℕ → Type 0
 IsSame first second one other = (first ≡ second) × (one ≡ other)
 
-both-answered : (o : Outside) (files : Entries) (input : List ℕ) (words : List (List ℕ)) (first second : Status) (one other : List ℕ) → IsTold o files input
-    → Answered o words first one → Answered o words second other → IsSame first second one other
-both-answered o files input words first second one other told h k =
+both-answered : (o p : Outside) (files : Entries) (input : List ℕ) (words : List (List ℕ)) (first second : Status) (one other : List ℕ) → IsTold o files input → IsTold p files input
+    → Answered o words first one → Answered p words second other → IsSame first second one other
+both-answered o p files input words first second one other told same h k =
     let job : h.job ≡ k.job = one-job words h.job k.job h.asked k.asked in
     let setup = ap (λ (j : Job). j.setup) job in
     let Lines : Option (List ℕ) → Type 0 = λ i. AreLines h.job.work i h.lines in
     let Others : Option (List ℕ) → Type 0 = λ i. AreLines k.job.work i k.lines in
     let Works : Work → Type 0 = λ w. AreLines w (Some input) h.lines in
     let lines : h.lines ≡ k.lines =
-    one-lines k.job.work input h.lines k.lines (subst Works (ap (λ (j : Job). j.work) job) (subst Lines told.input_told h.are_lines)) (subst Others told.input_told k.are_lines) in
+    one-lines k.job.work input h.lines k.lines (subst Works (ap (λ (j : Job). j.work) job) (subst Lines told.input_told h.are_lines)) (subst Others same.input_told k.are_lines) in
     let loaded : h.session.loaded ≡ k.session.loaded =
     ok-same h.session.loaded k.session.loaded (one-load files [] k.job.setup (Ok h.session.loaded) (Ok k.session.loaded)
     (given-of o files h.job.setup k.job.setup (Ok h.session.loaded) told.files_told setup h.session.setup)
-    (given-of o files k.job.setup k.job.setup (Ok k.session.loaded) told.files_told refl k.session.setup)
+    (given-of p files k.job.setup k.job.setup (Ok k.session.loaded) same.files_told refl k.session.setup)
     (ok-no-fault h.session.loaded) (ok-no-fault k.session.loaded)) in
     let Files : Option Entries → Type 0 = λ fs. RunsTo fs h.session.loaded h.lines h.answers h.session.after in
     let Runs : Option Entries → Type 0 = λ fs. RunsTo fs k.session.loaded k.lines k.answers k.session.after in
@@ -110,30 +110,30 @@ both-answered o files input words first second one other told h k =
     let By : List (List ℕ) → Type 0 = λ ls. RunsTo (Some files) k.session.loaded ls h.answers h.session.after in
     let answers : h.answers ≡ k.answers =
     one-run files k.session.loaded k.lines h.answers k.answers h.session.after k.session.after
-    (subst By lines (subst From loaded (subst Files told.files_told h.session.answered))) (subst Runs told.files_told k.session.answered)
+    (subst By lines (subst From loaded (subst Files told.files_told h.session.answered))) (subst Runs same.files_told k.session.answered)
     (none-rose (count_by is_file_fault h.answers) o.before.faults o.now.faults told.no_fault told.not_last h.session.counted.faults)
-    (none-rose (count_by is_file_fault k.answers) o.before.faults o.now.faults told.no_fault told.not_last k.session.counted.faults) in
+    (none-rose (count_by is_file_fault k.answers) p.before.faults p.now.faults same.no_fault same.not_last k.session.counted.faults) in
     (h.ended ∙ ap status_of answers ∙ sym k.ended, h.written ∙ ap (λ (a : List Answer). flat_map line_of a) answers ∙ sym k.written)
 
 -- a run that was answered and one whose setup was refused don't stand together
-not-both : (o : Outside) (files : Entries) (input : List ℕ) (words : List (List ℕ)) (status : Status) (cause : LineFault) (one other : List ℕ) → IsTold o files input
-    → Answered o words status one → SetupRefused o words cause other → ⊥
-not-both o files input words status cause one other told h k =
+not-both : (o p : Outside) (files : Entries) (input : List ℕ) (words : List (List ℕ)) (status : Status) (cause : LineFault) (one other : List ℕ) → IsTold o files input → IsTold p files input
+    → Answered o words status one → SetupRefused p words cause other → ⊥
+not-both o p files input words status cause one other told same h k =
     let setup = ap (λ (j : Job). j.setup) (one-job words h.job k.job h.asked k.asked) in
     ok-not-err h.session.loaded cause (one-load files [] k.job.setup (Ok h.session.loaded) (Err cause)
     (given-of o files h.job.setup k.job.setup (Ok h.session.loaded) told.files_told setup h.session.setup)
-    (given-of o files k.job.setup k.job.setup (Err cause) told.files_told refl k.given)
-    (ok-no-fault h.session.loaded) (refused-no-fault o files input cause told k.caused))
+    (given-of p files k.job.setup k.job.setup (Err cause) same.files_told refl k.given)
+    (ok-no-fault h.session.loaded) (refused-no-fault p files input cause same k.caused))
 
-both-refused : (o : Outside) (files : Entries) (input : List ℕ) (words : List (List ℕ)) (c d : LineFault) (one other : List ℕ) → IsTold o files input
-    → SetupRefused o words c one → SetupRefused o words d other → IsSame (BadSetup c) (BadSetup d) one other
-both-refused o files input words c d one other told h k =
+both-refused : (o p : Outside) (files : Entries) (input : List ℕ) (words : List (List ℕ)) (c d : LineFault) (one other : List ℕ) → IsTold o files input → IsTold p files input
+    → SetupRefused o words c one → SetupRefused p words d other → IsSame (BadSetup c) (BadSetup d) one other
+both-refused o p files input words c d one other told same h k =
     let setup = ap (λ (j : Job). j.setup) (one-job words h.job k.job h.asked k.asked) in
     let cause : c ≡ d =
     err-same c d (one-load files [] k.job.setup (Err c) (Err d)
     (given-of o files h.job.setup k.job.setup (Err c) told.files_told setup h.given)
-    (given-of o files k.job.setup k.job.setup (Err d) told.files_told refl k.given)
-    (refused-no-fault o files input c told h.caused) (refused-no-fault o files input d told k.caused)) in
+    (given-of p files k.job.setup k.job.setup (Err d) same.files_told refl k.given)
+    (refused-no-fault o files input c told h.caused) (refused-no-fault p files input d same k.caused)) in
     (ap BadSetup cause, h.written ∙ ap (λ (x : LineFault). codes "bad setup " ++ (refusal_text x ++ (10 ∷ []))) cause ∙ sym k.written)
 
 -- a whole run was answered, or its words or its setup refused
@@ -152,20 +152,20 @@ ending o words WriteFault bytes c h = absurd c
 ending o words OutOfMemory bytes c h = absurd c
 ending o words InputTooLong bytes c h = absurd c
 
-both : (o : Outside) (files : Entries) (input : List ℕ) (words : List (List ℕ)) (first second : Status) (one other : List ℕ) → IsTold o files input
-    → Ending o words first one → Ending o words second other → IsSame first second one other
-both o files input words first second one other told (inl h) (inl k) = both-answered o files input words first second one other told h k
-both o files input words first second one other told (inl h) (inr (inl (e, k))) = absurd (k.none h.job h.asked)
-both o files input words first second one other told (inl h) (inr (inr (cause, e, k))) = absurd (not-both o files input words first cause one other told h k)
-both o files input words first second one other told (inr (inl (e, h))) (inl k) = absurd (h.none k.job k.asked)
-both o files input words first second one other told (inr (inl (e, h))) (inr (inl (f, k))) = (e ∙ sym f, h.written ∙ sym k.written)
-both o files input words first second one other told (inr (inl (e, h))) (inr (inr (cause, f, k))) = absurd (h.none k.job k.asked)
-both o files input words first second one other told (inr (inr (cause, e, h))) (inl k) = absurd (not-both o files input words second cause other one told k h)
-both o files input words first second one other told (inr (inr (cause, e, h))) (inr (inl (f, k))) = absurd (k.none h.job h.asked)
-both o files input words first second one other told (inr (inr (c, e, h))) (inr (inr (d, f, k))) =
-    let same = both-refused o files input words c d one other told h k in
-    (e ∙ same.0 ∙ sym f, same.1)
+both : (o p : Outside) (files : Entries) (input : List ℕ) (words : List (List ℕ)) (first second : Status) (one other : List ℕ) → IsTold o files input → IsTold p files input
+    → Ending o words first one → Ending p words second other → IsSame first second one other
+both o p files input words first second one other told same (inl h) (inl k) = both-answered o p files input words first second one other told same h k
+both o p files input words first second one other told same (inl h) (inr (inl (e, k))) = absurd (k.none h.job h.asked)
+both o p files input words first second one other told same (inl h) (inr (inr (cause, e, k))) = absurd (not-both o p files input words first cause one other told same h k)
+both o p files input words first second one other told same (inr (inl (e, h))) (inl k) = absurd (h.none k.job k.asked)
+both o p files input words first second one other told same (inr (inl (e, h))) (inr (inl (f, k))) = (e ∙ sym f, h.written ∙ sym k.written)
+both o p files input words first second one other told same (inr (inl (e, h))) (inr (inr (cause, f, k))) = absurd (h.none k.job k.asked)
+both o p files input words first second one other told same (inr (inr (cause, e, h))) (inl k) = absurd (not-both p o files input words second cause other one same told k h)
+both o p files input words first second one other told same (inr (inr (cause, e, h))) (inr (inl (f, k))) = absurd (k.none h.job h.asked)
+both o p files input words first second one other told same (inr (inr (c, e, h))) (inr (inr (d, f, k))) =
+    let one-refusal = both-refused o p files input words c d one other told same h k in
+    (e ∙ one-refusal.0 ∙ sym f, one-refusal.1)
 
 pub one-output : OneOutput
-one-output o files input words first second one other told c d h k =
-    both o files input words first second one other told (ending o words first one c h) (ending o words second other d k)
+one-output o p files input words first second one other told same c d h k =
+    both o p files input words first second one other told same (ending o words first one c h) (ending p words second other d k)

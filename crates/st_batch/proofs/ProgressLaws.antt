@@ -1,5 +1,5 @@
 -- How the answering of lines comes along.
-use Rattle.std.proofs.Common.{◌≡◌, ℕ, ◌+◌, ◌≤◌, Bool, true, false, ◌||◌, cond, Option, Result, Ok, Err, OnOk, List, [], ◌∷◌, ◌++◌, refl, sym, ◌∙◌, ap, arith, subst, append_assoc, append-nil}
+use Rattle.std.proofs.Common.{◌≡◌, ℕ, ◌+◌, ◌*◌, ◌≤◌, Bool, true, false, ◌||◌, cond, Option, Result, Ok, Err, OnOk, List, [], ◌∷◌, ◌++◌, refl, sym, ◌∙◌, ap, arith, subst, append_assoc, append-nil}
 use Rattle.std.specs.Io.KnownBytes.{Appends}
 use Rattle.std.specs.List.{flat_map, list_any, count_by}
 use Rattle.std.proofs.KnownBytes.{Appends-nil, Appends-trans}
@@ -12,7 +12,7 @@ use Rattle.st_batch.specs.declared.answer.Answer.{Answer}
 use Rattle.st_batch.specs.declared.answering.Answering.{Answering}
 use Rattle.st_batch.specs.declared.status.Status.{Status}
 use Rattle.st_batch.specs.declared.status.Status.TheVariants.{Done, SomeRefused, BadWords, BadSetup, ReadFault, WriteFault, OutOfMemory, InputTooLong}
-use Rattle.st_batch.specs.Causes.{Counts, RoseBy, AreCounted, is_no_file, is_file_fault}
+use Rattle.st_batch.specs.Causes.{FileCounts, RoseBy, AreCounted, is_no_file, is_file_fault, is_file_too_long}
 use Rattle.st_batch.specs.Outcome.{line_of, is_refused}
 use Rattle.st_batch.specs.Progress.{Moment, AreLater, AnswersOne, Writes, Advances, Stops, Completes, StopsWithin, Finishes, FinishesWriting}
 use Rattle.st_batch.specs.Session.{RunsTo}
@@ -34,23 +34,32 @@ rose-join m n a b c p q = omega arith
 pub rose-later : (m a b c : ℕ) → RoseBy m a b → b ≤ c → RoseBy m a c
 rose-later m a b c p q = omega arith
 
+-- the same of bytes, of which each answer has as many as no file may have
+bytes-join : (m n a b c : ℕ) → RoseBy (m * 16_777_217) a b → RoseBy (n * 16_777_217) b c → RoseBy ((m + n) * 16_777_217) a c
+bytes-join m n a b c p q = omega arith
+
+bytes-later : (m a b c : ℕ) → RoseBy (m * 16_777_217) a b → RoseBy 0 b c → RoseBy (m * 16_777_217) a c
+bytes-later m a b c p q = omega arith
+
 count-append : (p : Answer → Bool) (xs ys : List Answer) → count_by p (xs ++ ys) ≡ count_by p xs + count_by p ys
 count-append p xs ys = sum_by-append (λ x. cond (p x) 1 0) xs ys
 
 -- no answers count for nothing
-pub counted-none : (a : Counts) → AreCounted a a []
-counted-none a = record { misses = omega arith; faults = omega arith }
+pub counted-none : (a : FileCounts) → AreCounted a a []
+counted-none a = record { misses = omega arith; faults = omega arith; taken = omega arith }
 
-pub counted-join : (a b c : Counts) (xs ys : List Answer) → AreCounted a b xs → AreCounted b c ys → AreCounted a c (xs ++ ys)
+pub counted-join : (a b c : FileCounts) (xs ys : List Answer) → AreCounted a b xs → AreCounted b c ys → AreCounted a c (xs ++ ys)
 counted-join a b c xs ys p q = record {
   misses = rw (count-append is_no_file xs ys) (rose-join _ _ _ _ _ p.misses q.misses);
   faults = rw (count-append is_file_fault xs ys) (rose-join _ _ _ _ _ p.faults q.faults);
+  taken = rw (count-append is_file_too_long xs ys) (bytes-join _ _ _ _ _ p.taken q.taken);
 }
 
-pub counted-later : (a b c : Counts) (xs : List Answer) → AreCounted a b xs → AreLater b c → AreCounted a c xs
+pub counted-later : (a b c : FileCounts) (xs : List Answer) → AreCounted a b xs → AreLater b c → AreCounted a c xs
 counted-later a b c xs p q = record {
   misses = rose-later _ _ _ _ p.misses q.misses;
   faults = rose-later _ _ _ _ p.faults q.faults;
+  taken = bytes-later _ _ _ _ p.taken q.taken;
 }
 
 -- what is gathered and written of two runs of answers
@@ -103,7 +112,7 @@ advances-join files a b c xs ys p q = record {
 }
 
 -- one line was answered, and nothing written
-pub advances-one : (files : Option Entries) (before now : Counts) (taken : Option (List ℕ)) (a b : Answering) (line : List ℕ) → AnswersOne files before now a b line
+pub advances-one : (files : Option Entries) (before now : FileCounts) (taken : Option (List ℕ)) (a b : Answering) (line : List ℕ) → AnswersOne files before now a b line
     → Advances files (record { counts = before; taken = taken; answering = a }) (record { counts = now; taken = taken; answering = b }) (line ∷ [])
 advances-one files before now taken a b line p = record {
   answers = p.answer ∷ [];
@@ -116,7 +125,7 @@ advances-one files before now taken a b line p = record {
 }
 
 -- some of what was gathered was written, and no line answered
-pub advances-writes : (files : Option Entries) (counts : Counts) (before now : Option (List ℕ)) (a b : Answering) → Writes before now a b
+pub advances-writes : (files : Option Entries) (counts : FileCounts) (before now : Option (List ℕ)) (a b : Answering) → Writes before now a b
     → Advances files (record { counts = counts; taken = before; answering = a }) (record { counts = counts; taken = now; answering = b }) []
 advances-writes files counts before now a b p = record {
   answers = [];
@@ -147,7 +156,7 @@ writes-ok (Ok u) before now a b p none session refused = writes-all before now a
 writes-ok (Err e) before now a b p none session refused = tt
 
 -- a fault of the output stopped the writing of what was gathered
-pub stops-cut : (files : Option Entries) (a b : Moment) (counts : Counts) (taken : Option (List ℕ)) (lines : List (List ℕ))
+pub stops-cut : (files : Option Entries) (a b : Moment) (counts : FileCounts) (taken : Option (List ℕ)) (lines : List (List ℕ))
     → Advances files a b lines → AreLater b.counts counts → TakesPrefix b.taken taken b.answering.gathered.items → Stops files a counts taken lines
 stops-cut files a b counts taken lines p later cut = record {
   answers = p.answers;
@@ -161,13 +170,13 @@ stops-cut files a b counts taken lines p later cut = record {
 }
 
 -- something else stopped the answering
-pub stops-here : (files : Option Entries) (a b : Moment) (counts : Counts) (lines : List (List ℕ))
+pub stops-here : (files : Option Entries) (a b : Moment) (counts : FileCounts) (lines : List (List ℕ))
     → Advances files a b lines → AreLater b.counts counts → Stops files a counts b.taken lines
 stops-here files a b counts lines p later =
     stops-cut files a b counts b.taken lines p later ([], b.answering.gathered.items, Appends-nil b.taken, refl)
 
 -- the answering stopped after some lines
-pub stops-after : (files : Option Entries) (a b : Moment) (counts : Counts) (taken : Option (List ℕ)) (xs ys : List (List ℕ))
+pub stops-after : (files : Option Entries) (a b : Moment) (counts : FileCounts) (taken : Option (List ℕ)) (xs ys : List (List ℕ))
     → Advances files a b xs → Stops files b counts taken ys → Stops files a counts taken (xs ++ ys)
 stops-after files a b counts taken xs ys p q = record {
   answers = p.answers ++ q.answers;
@@ -181,7 +190,7 @@ stops-after files a b counts taken xs ys p q = record {
 }
 
 -- all lines were answered, and then all that was gathered was written
-pub completes-written : (files : Option Entries) (a b : Moment) (counts : Counts) (taken : Option (List ℕ)) (lines : List (List ℕ))
+pub completes-written : (files : Option Entries) (a b : Moment) (counts : FileCounts) (taken : Option (List ℕ)) (lines : List (List ℕ))
     → Advances files a b lines → AreLater b.counts counts → Appends b.taken taken b.answering.gathered.items
     → Completes files a counts taken lines (cond b.answering.refused SomeRefused Done)
 completes-written files a b counts taken lines p later all = record {
@@ -194,18 +203,18 @@ completes-written files a b counts taken lines p later all = record {
 }
 
 -- the answering stopped within lines when all of them were answered
-within-all : (files : Option Entries) (a : Moment) (counts : Counts) (taken : Option (List ℕ)) (lines : List (List ℕ))
+within-all : (files : Option Entries) (a : Moment) (counts : FileCounts) (taken : Option (List ℕ)) (lines : List (List ℕ))
     → Stops files a counts taken lines → StopsWithin files a counts taken lines
 within-all files a counts taken lines p = record { first = lines; more = []; among = sym (append-nil lines); stopped = p }
 
 -- the answering stopped before the first of some lines
-pub within-none : (files : Option Entries) (a : Moment) (counts : Counts) (lines : List (List ℕ))
+pub within-none : (files : Option Entries) (a : Moment) (counts : FileCounts) (lines : List (List ℕ))
     → AreLater a.counts counts → StopsWithin files a counts a.taken lines
 within-none files a counts lines later =
     record { first = []; more = lines; among = refl; stopped = stops-here files a a counts [] (advances-none files a) later }
 
 -- lines were answered, and then what was gathered was written or a beginning of it
-pub finishes-written : (files : Option Entries) (a b : Moment) (counts : Counts) (taken : Option (List ℕ)) (lines : List (List ℕ)) (status : Status)
+pub finishes-written : (files : Option Entries) (a b : Moment) (counts : FileCounts) (taken : Option (List ℕ)) (lines : List (List ℕ)) (status : Status)
     → Advances files a b lines → AreLater b.counts counts → FinishesWriting b.taken taken b.answering status → Finishes files a counts taken lines status
 finishes-written files a b counts taken lines Done p later end =
     subst (λ (t : Bool). Completes files a counts taken lines (cond t SomeRefused Done)) end.1 (completes-written files a b counts taken lines p later end.0)
@@ -219,7 +228,7 @@ finishes-written files a b counts taken lines ReadFault p later end = absurd end
 finishes-written files a b counts taken lines InputTooLong p later end = absurd end
 
 -- lines were answered, and then more lines to the end
-completes-after : (files : Option Entries) (a b : Moment) (counts : Counts) (taken : Option (List ℕ)) (xs ys : List (List ℕ)) (status : Status)
+completes-after : (files : Option Entries) (a b : Moment) (counts : FileCounts) (taken : Option (List ℕ)) (xs ys : List (List ℕ)) (status : Status)
     → Advances files a b xs → Completes files b counts taken ys status → Completes files a counts taken (xs ++ ys) status
 completes-after files a b counts taken xs ys status p q =
     let all = gathered-join a.answering.gathered.items b.answering.gathered.items [] p.written
@@ -233,7 +242,7 @@ completes-after files a b counts taken xs ys status p q =
       ended = q.ended ∙ ap (λ (t : Bool). cond t SomeRefused Done) (refused-join a.answering.refused b.answering.refused _ p.answers q.answers p.refused refl);
     }
 
-within-after : (files : Option Entries) (a b : Moment) (counts : Counts) (taken : Option (List ℕ)) (xs ys : List (List ℕ))
+within-after : (files : Option Entries) (a b : Moment) (counts : FileCounts) (taken : Option (List ℕ)) (xs ys : List (List ℕ))
     → Advances files a b xs → StopsWithin files b counts taken ys → StopsWithin files a counts taken (xs ++ ys)
 within-after files a b counts taken xs ys p q = record {
   first = xs ++ q.first;
@@ -242,7 +251,7 @@ within-after files a b counts taken xs ys p q = record {
   stopped = stops-after files a b counts taken xs q.first p q.stopped;
 }
 
-pub finishes-after : (files : Option Entries) (a b : Moment) (counts : Counts) (taken : Option (List ℕ)) (xs ys : List (List ℕ)) (status : Status)
+pub finishes-after : (files : Option Entries) (a b : Moment) (counts : FileCounts) (taken : Option (List ℕ)) (xs ys : List (List ℕ)) (status : Status)
     → Advances files a b xs → Finishes files b counts taken ys status → Finishes files a counts taken (xs ++ ys) status
 finishes-after files a b counts taken xs ys Done p q = completes-after files a b counts taken xs ys Done p q
 finishes-after files a b counts taken xs ys SomeRefused p q = completes-after files a b counts taken xs ys SomeRefused p q

@@ -5,15 +5,15 @@ use Rattle.st_text.specs.Lines.{lines_of, without_cr}
 use Rattle.st_text.proofs.Splits.{lines_of-nil}
 use Rattle.st_batch.specs.declared.answering.Answering.{Answering}
 use Rattle.st_batch.specs.declared.status.Status.{Status}
-use Rattle.st_batch.specs.Causes.{Counts}
+use Rattle.st_batch.specs.Causes.{FileCounts}
 use Rattle.st_batch.specs.Progress.{Moment, AreLater, AnswersOne, Writes, Finishes, FinishesWriting, HasNoFeed, CutsAtFeed, Reads, Halts, ReadsPart}
 use Rattle.st_batch.specs.Taken.{TakesPrefix}
 use Rattle.st_batch.proofs.CutLaws.{joined_no_feed, lines-begun, cuts-none, cuts-join, cuts-begun, cuts-line, ends-cut, ends-none, ends-longer, ends-join}
 use Rattle.st_batch.proofs.ProgressLaws.{advances-none, advances-join, advances-one, advances-writes, stops-cut, stops-here, stops-after, finishes-written}
 
 -- the counts are no later than themselves
-pub later-same : (a : Counts) → AreLater a a
-later-same a = record { misses = omega arith; faults = omega arith }
+pub later-same : (a : FileCounts) → AreLater a a
+later-same a = record { misses = omega arith; faults = omega arith; taken = omega arith }
 
 -- no line is begun: what is gathered is written
 pub last-none : (files : Option Entries) (a : Moment) (taken : Option (List ℕ)) (begun : List ℕ) (status : Status)
@@ -23,13 +23,13 @@ last-none files a taken begun status none end =
     (finishes-written files a a a.counts taken [] status (advances-none files a) (later-same a.counts) end)
 
 -- the begun line is the last one
-pub last-line : (files : Option Entries) (a : Moment) (counts : Counts) (taken : Option (List ℕ)) (begun line : List ℕ) (status : Status)
+pub last-line : (files : Option Entries) (a : Moment) (counts : FileCounts) (taken : Option (List ℕ)) (begun line : List ℕ) (status : Status)
     → HasNoFeed begun → 0 < length begun → line ≡ without_cr begun → Finishes files a counts taken (line ∷ []) status → Finishes files a counts taken (lines_of begun) status
 last-line files a counts taken begun line status none some e p =
     subst (λ (l : List (List ℕ)). Finishes files a counts taken l status) (ap (λ (l : List ℕ). l ∷ []) e ∙ sym (lines-begun begun some none)) p
 
 -- the line that a line feed ends was answered, and some of what was gathered written
-pub reads-line : (files : Option Entries) (before now : Counts) (taken then : Option (List ℕ)) (a b c : Answering) (begun end next : List ℕ)
+pub reads-line : (files : Option Entries) (before now : FileCounts) (taken then : Option (List ℕ)) (a b c : Answering) (begun end next : List ℕ)
     → HasNoFeed begun → HasNoFeed end → next ≡ [] → AnswersOne files before now a b (without_cr (begun ++ end)) → Writes taken then b c
     → Reads files (record { counts = before; taken = taken; answering = a }) (record { counts = now; taken = then; answering = c }) begun (end ++ (10 ∷ [])) next
 reads-line files before now taken then a b c begun end next p q none one writes =
@@ -43,7 +43,7 @@ reads-line files before now taken then a b c begun end next p q none one writes 
     })
 
 -- the same, but a fault of the output stopped the writing
-pub halts-line : (files : Option Entries) (before now : Counts) (taken then : Option (List ℕ)) (a b : Answering) (begun end : List ℕ)
+pub halts-line : (files : Option Entries) (before now : FileCounts) (taken then : Option (List ℕ)) (a b : Answering) (begun end : List ℕ)
     → HasNoFeed begun → HasNoFeed end → AnswersOne files before now a b (without_cr (begun ++ end)) → TakesPrefix taken then b.gathered.items
     → Halts files (record { counts = before; taken = taken; answering = a }) now then begun (end ++ (10 ∷ []))
 halts-line files before now taken then a b begun end p q one cut = record {
@@ -53,7 +53,7 @@ halts-line files before now taken then a b begun end p q one cut = record {
 }
 
 -- nothing was answered
-pub halts-none : (files : Option Entries) (a : Moment) (now : Counts) (begun text : List ℕ) → AreLater a.counts now → Halts files a now a.taken begun text
+pub halts-none : (files : Option Entries) (a : Moment) (now : FileCounts) (begun text : List ℕ) → AreLater a.counts now → Halts files a now a.taken begun text
 halts-none files a now begun text later = record {
   lines = [];
   ends = ends-none begun text;
@@ -69,7 +69,7 @@ reads-join files a b c x y z s t p q = record {
 }
 
 -- the answering stopped in a text behind one whose lines were answered
-pub halts-after : (files : Option Entries) (a b : Moment) (now : Counts) (taken : Option (List ℕ)) (x y s t : List ℕ)
+pub halts-after : (files : Option Entries) (a b : Moment) (now : FileCounts) (taken : Option (List ℕ)) (x y s t : List ℕ)
     → Reads files a b x s y → Halts files b now taken y t → Halts files a now taken x (s ++ t)
 halts-after files a b now taken x y s t p q = record {
   lines = p.lines ++ q.lines;
@@ -77,7 +77,7 @@ halts-after files a b now taken x y s t p q = record {
   stopped = stops-after files a b now taken p.lines q.lines p.advanced q.stopped;
 }
 
-halts-longer : (files : Option Entries) (a : Moment) (now : Counts) (taken : Option (List ℕ)) (x s t : List ℕ) → Halts files a now taken x s → Halts files a now taken x (s ++ t)
+halts-longer : (files : Option Entries) (a : Moment) (now : FileCounts) (taken : Option (List ℕ)) (x s t : List ℕ) → Halts files a now taken x s → Halts files a now taken x (s ++ t)
 halts-longer files a now taken x s t p = record { lines = p.lines; ends = ends-longer x s t p.lines p.ends; stopped = p.stopped }
 
 -- nothing of a piece was read
@@ -100,7 +100,7 @@ part-next files same a b c x y z piece rest end behind e p cut q = record {
 }
 
 -- the answering stopped at the next line of a piece
-pub halts-next : (files same : Option Entries) (a b : Moment) (now : Counts) (taken : Option (List ℕ)) (x y piece rest end behind : List ℕ)
+pub halts-next : (files same : Option Entries) (a b : Moment) (now : FileCounts) (taken : Option (List ℕ)) (x y piece rest end behind : List ℕ)
     → same ≡ files → ReadsPart files a b x piece rest y → CutsAtFeed rest end behind → Halts same b now taken y (end ++ (10 ∷ [])) → Halts files a now taken x piece
 halts-next files same a b now taken x y piece rest end behind e p cut q =
     let halts = subst (λ (f : Option Entries). Halts f b now taken y (end ++ (10 ∷ []))) e q in
@@ -108,7 +108,7 @@ halts-next files same a b now taken x y piece rest end behind e p cut q =
     (halts-longer files a now taken x (p.seen ++ (end ++ (10 ∷ []))) behind (halts-after files a b now taken x y p.seen (end ++ (10 ∷ [])) p.read halts))
 
 -- a piece was read whole, and all that was gathered written
-pub part-last : (files : Option Entries) (counts now : Counts) (before taken then : Option (List ℕ)) (a b c : Answering) (x y z piece rest : List ℕ)
+pub part-last : (files : Option Entries) (counts now : FileCounts) (before taken then : Option (List ℕ)) (a b c : Answering) (x y z piece rest : List ℕ)
     → ReadsPart files (record { counts = counts; taken = before; answering = a }) (record { counts = now; taken = taken; answering = b }) x piece rest y
     → HasNoFeed rest → z ≡ y ++ rest → Writes taken then b c
     → Reads files (record { counts = counts; taken = before; answering = a }) (record { counts = now; taken = then; answering = c }) x piece z

@@ -15,47 +15,46 @@ use Rattle.st_batch.specs.declared.answer.Answer.{Answer}
 use Rattle.st_batch.specs.declared.answer.Answer.TheVariants.{Refused}
 use Rattle.st_batch.specs.declared.status.Status.{Status}
 use Rattle.st_batch.specs.declared.status.Status.TheVariants.{Done, SomeRefused, BadWords, BadSetup, ReadFault, WriteFault, OutOfMemory, InputTooLong}
-use Rattle.st_batch.specs.Causes.{Counts, RoseBy, AreCounted, is_file_fault, IsCaused, IsSetupCaused, IsStatusCaused}
+use Rattle.st_batch.specs.Causes.{FileCounts, RoseBy, AreCounted, is_file_fault, IsCaused, IsLoadCaused, IsStatusCaused}
 use Rattle.st_batch.specs.Load.{LoadGives, LoadRefuses}
-use Rattle.st_batch.specs.Outcome.{Outside, Answered, BeginsAnswers, BeginsAllowed, Outcome, WhereTold, ReadsAll, ReadsNothing}
-use Rattle.st_batch.specs.Progress.{AllAnswered, SomeAnswered, LinesEnd, IsOfLines, IsWhole}
+use Rattle.st_batch.specs.Outcome.{Outside, Answered, BeginsAnswers, BeginsAllowed, Outcome, AnswersAll, Took, ReadsAll, ReadsNothing}
+use Rattle.st_batch.specs.Progress.{AllAnswered, SomeAnswered, LinesEnd, IsOfLines, AreLater}
 use Rattle.st_batch.specs.Texts.{refusal_text}
 use Rattle.st_batch.specs.Words.{AskFor, AskForNone, AreLines}
-use Rattle.st_batch.specs.Written.{Delivers, HasNoInput, IsCut, IsOfJob, WordsFit}
+use Rattle.st_batch.specs.Written.{Delivers, ReadsNone, IsCut, IsOfJob, WordsFit}
 use Rattle.st_batch.proofs.OneLoad.{some-load, IsSound}
 
--- what is told of the output carries over from one word on its bytes to another
-pub told-as : (before after : Option (List ℕ)) (P Q : List ℕ → Type 0) → ((bytes : List ℕ) → P bytes → Q bytes) → WhereTold before after P → WhereTold before after Q
-told-as None after P Q f h = tt
-told-as (Some xs) after P Q f (bytes, appends, p) = (bytes, appends, f bytes p)
+-- what the output took carries over from one word on its bytes to another
+pub told-as : (before after : Option (List ℕ)) (P Q : List ℕ → Type 0) → ((bytes : List ℕ) → P bytes → Q bytes) → Took before after P → Took before after Q
+told-as before after P Q f (bytes, appends, p) = (bytes, appends, f bytes p)
 
 -- the files, the input and the counts, as a run's contract puts them together
-abbrev pub outside : Option Entries → Option (List ℕ) → Counts → Counts → Outside
+abbrev pub outside : Option Entries → Option (List ℕ) → FileCounts → FileCounts → Outside
 outside files input before now = record { files = files; input = input; before = before; now = now }
 
 -- counts that rose from some moment on rose from an earlier one
-pub counted-from : (before mid now : Counts) (answers : List Answer) → before.misses ≤ mid.misses → before.faults ≤ mid.faults → AreCounted mid now answers → AreCounted before now answers
-counted-from before mid now answers m f c = record { misses = omega (arith, c.misses); faults = omega (arith, c.faults) }
+pub counted-from : (before mid now : FileCounts) (answers : List Answer) → AreLater before mid → AreCounted mid now answers → AreCounted before now answers
+counted-from before mid now answers l c = record { misses = omega (arith, c.misses, l.misses); faults = omega (arith, c.faults, l.faults); taken = omega (arith, c.taken, l.taken) }
 
-all-answered : (files : Option Entries) (input : Option (List ℕ)) (before mid now : Counts) (words : List (List ℕ)) (job : Job) (loaded : List Kernel) (status : Status) (bytes : List ℕ)
-    → before.misses ≤ mid.misses → before.faults ≤ mid.faults → AskFor words job → LoadGives files [] job.setup (Ok loaded)
+all-answered : (files : Option Entries) (input : Option (List ℕ)) (before mid now : FileCounts) (words : List (List ℕ)) (job : Job) (loaded : List Kernel) (status : Status) (bytes : List ℕ)
+    → AreLater before mid → AskFor words job → LoadGives files [] job.setup (Ok loaded)
     → AllAnswered (outside files input mid now) job.work loaded status bytes → Answered (outside files input before now) words status bytes
-all-answered files input before mid now words job loaded status bytes m f asked setup h = record {
+all-answered files input before mid now words job loaded status bytes l asked setup h = record {
   job = job;
   lines = h.lines;
   answers = h.answers;
   asked = asked;
   are_lines = h.are_lines;
   short = h.short;
-  session = record { loaded = loaded; after = h.after; setup = setup; answered = h.answered; counted = counted-from before mid now h.answers m f h.counted };
+  session = record { loaded = loaded; after = h.after; setup = setup; answered = h.answered; counted = counted-from before mid now h.answers l h.counted };
   ended = h.ended;
   written = h.written;
 }
 
-some-answered : (files : Option Entries) (input : Option (List ℕ)) (before mid now : Counts) (words : List (List ℕ)) (job : Job) (loaded : List Kernel) (bytes : List ℕ)
-    → before.misses ≤ mid.misses → before.faults ≤ mid.faults → AskFor words job → LoadGives files [] job.setup (Ok loaded)
+some-answered : (files : Option Entries) (input : Option (List ℕ)) (before mid now : FileCounts) (words : List (List ℕ)) (job : Job) (loaded : List Kernel) (bytes : List ℕ)
+    → AreLater before mid → AskFor words job → LoadGives files [] job.setup (Ok loaded)
     → SomeAnswered (outside files input mid now) job.work loaded bytes → BeginsAnswers (outside files input before now) words bytes
-some-answered files input before mid now words job loaded bytes m f asked setup h = record {
+some-answered files input before mid now words job loaded bytes l asked setup h = record {
   job = job;
   lines = h.lines;
   more = h.more;
@@ -63,32 +62,32 @@ some-answered files input before mid now words job loaded bytes m f asked setup 
   rest = h.rest;
   asked = asked;
   are_lines = h.are_lines;
-  session = record { loaded = loaded; after = h.after; setup = setup; answered = h.answered; counted = counted-from before mid now h.answers m f h.counted };
+  session = record { loaded = loaded; after = h.after; setup = setup; answered = h.answered; counted = counted-from before mid now h.answers l h.counted };
   written = h.written;
 }
 
-lines-end : (files : Option Entries) (input : Option (List ℕ)) (before mid now : Counts) (words : List (List ℕ)) (job : Job) (loaded : List Kernel) (status : Status) (bytes : List ℕ)
-    → before.misses ≤ mid.misses → before.faults ≤ mid.faults → AskFor words job → LoadGives files [] job.setup (Ok loaded)
+lines-end : (files : Option Entries) (input : Option (List ℕ)) (before mid now : FileCounts) (words : List (List ℕ)) (job : Job) (loaded : List Kernel) (status : Status) (bytes : List ℕ)
+    → AreLater before mid → AskFor words job → LoadGives files [] job.setup (Ok loaded)
     → LinesEnd (outside files input mid now) job.work loaded status bytes → Outcome (outside files input before now) words status bytes
-lines-end files input before mid now words job loaded Done bytes m f asked setup h = all-answered files input before mid now words job loaded Done bytes m f asked setup h
-lines-end files input before mid now words job loaded SomeRefused bytes m f asked setup h = all-answered files input before mid now words job loaded SomeRefused bytes m f asked setup h
-lines-end files input before mid now words job loaded (BadWords w) bytes m f asked setup h = absurd h
-lines-end files input before mid now words job loaded (BadSetup c) bytes m f asked setup h = absurd h
-lines-end files input before mid now words job loaded ReadFault bytes m f asked setup h = some-answered files input before mid now words job loaded bytes m f asked setup h
-lines-end files input before mid now words job loaded InputTooLong bytes m f asked setup h =
-    (some-answered files input before mid now words job loaded bytes m f asked setup h.0, h.1)
-lines-end files input before mid now words job loaded WriteFault bytes m f asked setup h = inl (some-answered files input before mid now words job loaded bytes m f asked setup h)
-lines-end files input before mid now words job loaded OutOfMemory bytes m f asked setup h = inl (some-answered files input before mid now words job loaded bytes m f asked setup h)
+lines-end files input before mid now words job loaded Done bytes l asked setup h = all-answered files input before mid now words job loaded Done bytes l asked setup h
+lines-end files input before mid now words job loaded SomeRefused bytes l asked setup h = all-answered files input before mid now words job loaded SomeRefused bytes l asked setup h
+lines-end files input before mid now words job loaded (BadWords w) bytes l asked setup h = absurd h
+lines-end files input before mid now words job loaded (BadSetup c) bytes l asked setup h = absurd h
+lines-end files input before mid now words job loaded ReadFault bytes l asked setup h = some-answered files input before mid now words job loaded bytes l asked setup h
+lines-end files input before mid now words job loaded InputTooLong bytes l asked setup h =
+    (some-answered files input before mid now words job loaded bytes l asked setup h.0, h.1)
+lines-end files input before mid now words job loaded WriteFault bytes l asked setup h = inl (some-answered files input before mid now words job loaded bytes l asked setup h)
+lines-end files input before mid now words job loaded OutOfMemory bytes l asked setup h = inl (some-answered files input before mid now words job loaded bytes l asked setup h)
 
 -- a setup that was loaded, and the lines that were then answered
-pub lines-outcome : (files same : Option Entries) (input taken after : Option (List ℕ)) (before mid now : Counts) (words : List (List ℕ)) (job : Job) (loaded : List Kernel) (status : Status)
-    → same ≡ files → before.misses ≤ mid.misses → before.faults ≤ mid.faults → AskFor words job → LoadGives files [] job.setup (Ok loaded)
-    → WhereTold taken after (LinesEnd (outside same input mid now) job.work loaded status)
-    → WhereTold taken after (Outcome (outside files input before now) words status)
-lines-outcome files same input taken after before mid now words job loaded status e m f asked setup h =
-    let P : Option Entries → Type 0 = λ fs. WhereTold taken after (LinesEnd (outside fs input mid now) job.work loaded status) in
+pub lines-outcome : (files same : Option Entries) (input taken after : Option (List ℕ)) (before mid now : FileCounts) (words : List (List ℕ)) (job : Job) (loaded : List Kernel) (status : Status)
+    → same ≡ files → AreLater before mid → AskFor words job → LoadGives files [] job.setup (Ok loaded)
+    → Took taken after (LinesEnd (outside same input mid now) job.work loaded status)
+    → Took taken after (Outcome (outside files input before now) words status)
+lines-outcome files same input taken after before mid now words job loaded status e l asked setup h =
+    let P : Option Entries → Type 0 = λ fs. Took taken after (LinesEnd (outside fs input mid now) job.work loaded status) in
     told-as taken after (LinesEnd (outside files input mid now) job.work loaded status) (Outcome (outside files input before now) words status)
-    (λ bytes. lines-end files input before mid now words job loaded status bytes m f asked setup) (subst P e h)
+    (λ bytes. lines-end files input before mid now words job loaded status bytes l asked setup) (subst P e h)
 
 cut-begins : (o : Outside) (words : List (List ℕ)) (status : Status) (bytes : List ℕ) → IsCut status → BeginsAllowed o words bytes → Outcome o words status bytes
 cut-begins o words Done bytes cut b = absurd cut
@@ -103,12 +102,11 @@ cut-begins o words OutOfMemory bytes cut b = b
 -- a whole output that was delivered
 delivered : (o : Outside) (words : List (List ℕ)) (output : List ℕ) (wanted status : Status) (taken after : Option (List ℕ))
     → Outcome o words wanted output → ((front rest : List ℕ) → output ≡ front ++ rest → BeginsAllowed o words front)
-    → Delivers output wanted taken after status → WhereTold taken after (Outcome o words status)
-delivered o words output wanted status None after whole begins d = tt
-delivered o words output wanted status (Some xs) after whole begins (inl (appends, same)) =
+    → Delivers output wanted taken after status → Took taken after (Outcome o words status)
+delivered o words output wanted status taken after whole begins (inl (appends, same)) =
     let P : Status → Type 0 = λ s. Outcome o words s output in
     (output, appends, subst P (sym same) whole)
-delivered o words output wanted status (Some xs) after whole begins (inr ((front, rest, appends, e), cut)) =
+delivered o words output wanted status taken after whole begins (inr ((front, rest, appends, e), cut)) =
     (front, appends, cut-begins o words status front cut (begins front rest e))
 
 abbrev pub setup_line : LineFault → List ℕ
@@ -117,7 +115,7 @@ setup_line cause = codes "bad setup " ++ (refusal_text cause ++ (10 ∷ []))
 -- a setup that was refused
 pub setup-outcome : (o : Outside) (words : List (List ℕ)) (job : Job) (cause : LineFault) (status : Status) (taken after : Option (List ℕ))
     → AskFor words job → LoadGives o.files [] job.setup (Err cause) → AreCounted o.before o.now (Refused cause ∷ [])
-    → Delivers (setup_line cause) (BadSetup cause) taken after status → WhereTold taken after (Outcome o words status)
+    → Delivers (setup_line cause) (BadSetup cause) taken after status → Took taken after (Outcome o words status)
 setup-outcome o words job cause status taken after asked given counted d =
     delivered o words (setup_line cause) (BadSetup cause) status taken after
     (record { job = job; asked = asked; given = given; caused = counted.faults; written = refl })
@@ -126,7 +124,7 @@ setup-outcome o words job cause status taken after asked given counted d =
 
 -- words that were refused
 pub words-outcome : (o : Outside) (words : List (List ℕ)) (status : Status) (taken after : Option (List ℕ)) → AskForNone words
-    → Delivers (codes "bad words NOT_BUILT\n") (BadWords word.NotBuilt) taken after status → WhereTold taken after (Outcome o words status)
+    → Delivers (codes "bad words NOT_BUILT\n") (BadWords word.NotBuilt) taken after status → Took taken after (Outcome o words status)
 words-outcome o words status taken after none d =
     delivered o words (codes "bad words NOT_BUILT\n") (BadWords word.NotBuilt) status taken after
     (record { none = none; written = refl })
@@ -155,9 +153,9 @@ no-fault line.BadTime before now not later = omega (arith, later)
 no-fault line.OutOfMemory before now not later = omega (arith, later)
 
 -- where nothing was written there is an output that begins so
-setup-begins : (o : Outside) (words : List (List ℕ)) (job : Job) (r : Result (List Kernel) LineFault) → AskFor words job → o.before.misses ≤ o.now.misses → o.before.faults ≤ o.now.faults
+setup-begins : (o : Outside) (words : List (List ℕ)) (job : Job) (r : Result (List Kernel) LineFault) → AskFor words job → AreLater o.before o.now
     → IsSound o.files [] job.setup r → BeginsAllowed o words []
-setup-begins o words job (Ok loaded) asked m f (given, not) =
+setup-begins o words job (Ok loaded) asked l (given, not) =
     let ls = some-lines job.work o.input in
     inl (record {
       job = job;
@@ -167,60 +165,58 @@ setup-begins o words job (Ok loaded) asked m f (given, not) =
       rest = [];
       asked = asked;
       are_lines = ls.1;
-      session = record { loaded = loaded; after = loaded; setup = given; answered = refl; counted = record { misses = omega (arith, m); faults = omega (arith, f) } };
+      session = record { loaded = loaded; after = loaded; setup = given; answered = refl; counted = record { misses = omega (arith, l.misses); faults = omega (arith, l.faults); taken = omega (arith, l.taken) } };
       written = refl;
     })
-setup-begins o words job (Err cause) asked m f (given, not) =
-    inr (setup_line cause, inr (cause, record { job = job; asked = asked; given = given; caused = no-fault cause o.before.faults o.now.faults not f; written = refl }))
+setup-begins o words job (Err cause) asked l (given, not) =
+    inr (setup_line cause, inr (cause, record { job = job; asked = asked; given = given; caused = no-fault cause o.before.faults o.now.faults not l.faults; written = refl }))
 
-job-begins : (o : Outside) (words : List (List ℕ)) (job : Job) → AskFor words job → o.before.misses ≤ o.now.misses → o.before.faults ≤ o.now.faults → BeginsAllowed o words []
-job-begins o words job asked m f =
+job-begins : (o : Outside) (words : List (List ℕ)) (job : Job) → AskFor words job → AreLater o.before o.now → BeginsAllowed o words []
+job-begins o words job asked l =
     let r = some-load o.files [] job.setup in
-    setup-begins o words job r.0 asked m f r.1
+    setup-begins o words job r.0 asked l r.1
 
-nothing : (o : Outside) (words : List (List ℕ)) (taken : Option (List ℕ)) → BeginsAllowed o words [] → WhereTold taken taken (Outcome o words OutOfMemory)
-nothing o words None b = tt
-nothing o words (Some xs) b = ([], Appends-nil (Some xs), b)
+nothing : (o : Outside) (words : List (List ℕ)) (taken : Option (List ℕ)) → BeginsAllowed o words [] → Took taken taken (Outcome o words OutOfMemory)
+nothing o words taken b = ([], Appends-nil taken, b)
 
 -- where memory ran out before anything was written
-pub nothing-of-job : (o : Outside) (words : List (List ℕ)) (job : Job) (taken : Option (List ℕ)) → AskFor words job → o.before.misses ≤ o.now.misses → o.before.faults ≤ o.now.faults
-    → WhereTold taken taken (Outcome o words OutOfMemory)
-nothing-of-job o words job taken asked m f = nothing o words taken (job-begins o words job asked m f)
+pub nothing-of-job : (o : Outside) (words : List (List ℕ)) (job : Job) (taken : Option (List ℕ)) → AskFor words job → AreLater o.before o.now
+    → Took taken taken (Outcome o words OutOfMemory)
+nothing-of-job o words job taken asked l = nothing o words taken (job-begins o words job asked l)
 
 pub nothing-of-words : (o : Outside) (words : List (List ℕ)) (taken : Option (List ℕ)) → ((job : Job) × AskFor words job) ⊎ AskForNone words
-    → o.before.misses ≤ o.now.misses → o.before.faults ≤ o.now.faults → WhereTold taken taken (Outcome o words OutOfMemory)
-nothing-of-words o words taken (inl (job, asked)) m f = nothing-of-job o words job taken asked m f
-nothing-of-words o words taken (inr none) m f = nothing o words taken (inr (codes "bad words NOT_BUILT\n", inl (record { none = none; written = refl })))
+    → AreLater o.before o.now → Took taken taken (Outcome o words OutOfMemory)
+nothing-of-words o words taken (inl (job, asked)) l = nothing-of-job o words job taken asked l
+nothing-of-words o words taken (inr none) l = nothing o words taken (inr (codes "bad words NOT_BUILT\n", inl (record { none = none; written = refl })))
 
 -- the causes of a setup that was refused, as counts
-pub setup-counted : (fault : LineFault) (before now : Counts) (Long : Type 0) → fault ≢ line.OutOfMemory → before.misses ≤ now.misses → before.faults ≤ now.faults
-    → IsSetupCaused fault (Rose before.misses now.misses) (Rose before.faults now.faults) Long → AreCounted before now (Refused fault ∷ [])
-setup-counted line.BadCommand before now Long not m f c = record { misses = omega (arith, m); faults = omega (arith, f) }
-setup-counted line.LineTooLong before now Long not m f c = record { misses = omega (arith, m); faults = omega (arith, f) }
-setup-counted line.NoFile before now Long not m f c = record { misses = omega (arith, c); faults = omega (arith, f) }
-setup-counted line.FileFault before now Long not m f c = record { misses = omega (arith, m); faults = omega (arith, c) }
-setup-counted line.FileTooLong before now Long not m f c = record { misses = omega (arith, m); faults = omega (arith, f) }
-setup-counted (line.KernelText n k) before now Long not m f c = record { misses = omega (arith, m); faults = omega (arith, f) }
-setup-counted line.TooManyKernels before now Long not m f c = record { misses = omega (arith, m); faults = omega (arith, f) }
-setup-counted line.TooManyValues before now Long not m f c = record { misses = omega (arith, m); faults = omega (arith, f) }
-setup-counted line.NotLoaded before now Long not m f c = record { misses = omega (arith, m); faults = omega (arith, f) }
-setup-counted line.NotBuilt before now Long not m f c = record { misses = omega (arith, m); faults = omega (arith, f) }
-setup-counted line.BadTime before now Long not m f c = record { misses = omega (arith, m); faults = omega (arith, f) }
-setup-counted line.OutOfMemory before now Long not m f c = absurd (not refl)
+pub setup-counted : (fault : LineFault) (before now : FileCounts) → fault ≢ line.OutOfMemory → AreLater before now → IsLoadCaused fault before now → AreCounted before now (Refused fault ∷ [])
+setup-counted line.BadCommand before now not l c = record { misses = omega (arith, l.misses); faults = omega (arith, l.faults); taken = omega (arith, l.taken) }
+setup-counted line.LineTooLong before now not l c = record { misses = omega (arith, l.misses); faults = omega (arith, l.faults); taken = omega (arith, l.taken) }
+setup-counted line.NoFile before now not l c = record { misses = omega (arith, c.0); faults = omega (arith, l.faults); taken = omega (arith, l.taken) }
+setup-counted line.FileFault before now not l c = record { misses = omega (arith, l.misses); faults = omega (arith, c); taken = omega (arith, l.taken) }
+setup-counted line.FileTooLong before now not l c = record { misses = omega (arith, l.misses); faults = omega (arith, l.faults); taken = omega (arith, c) }
+setup-counted (line.KernelText n k) before now not l c = record { misses = omega (arith, l.misses); faults = omega (arith, l.faults); taken = omega (arith, l.taken) }
+setup-counted line.TooManyKernels before now not l c = record { misses = omega (arith, l.misses); faults = omega (arith, l.faults); taken = omega (arith, l.taken) }
+setup-counted line.TooManyValues before now not l c = record { misses = omega (arith, l.misses); faults = omega (arith, l.faults); taken = omega (arith, l.taken) }
+setup-counted line.NotLoaded before now not l c = record { misses = omega (arith, l.misses); faults = omega (arith, l.faults); taken = omega (arith, l.taken) }
+setup-counted line.NotBuilt before now not l c = record { misses = omega (arith, l.misses); faults = omega (arith, l.faults); taken = omega (arith, l.taken) }
+setup-counted line.BadTime before now not l c = record { misses = omega (arith, l.misses); faults = omega (arith, l.faults); taken = omega (arith, l.taken) }
+setup-counted line.OutOfMemory before now not l c = absurd (not refl)
 
-pub setup-caused : (fault : LineFault) (Missed Failed Long : Type 0) → fault ≢ line.OutOfMemory → IsSetupCaused fault Missed Failed Long → IsCaused fault Missed Failed Long
-setup-caused line.BadCommand Missed Failed Long not c = c
-setup-caused line.LineTooLong Missed Failed Long not c = c
-setup-caused line.NoFile Missed Failed Long not c = c
-setup-caused line.FileFault Missed Failed Long not c = c
-setup-caused line.FileTooLong Missed Failed Long not c = c
-setup-caused (line.KernelText n k) Missed Failed Long not c = c
-setup-caused line.TooManyKernels Missed Failed Long not c = c
-setup-caused line.TooManyValues Missed Failed Long not c = c
-setup-caused line.NotLoaded Missed Failed Long not c = c
-setup-caused line.NotBuilt Missed Failed Long not c = c
-setup-caused line.BadTime Missed Failed Long not c = c
-setup-caused line.OutOfMemory Missed Failed Long not c = absurd (not refl)
+pub setup-caused : (fault : LineFault) (before now : FileCounts) → fault ≢ line.OutOfMemory → IsLoadCaused fault before now → IsCaused fault before now
+setup-caused line.BadCommand before now not c = c
+setup-caused line.LineTooLong before now not c = c
+setup-caused line.NoFile before now not c = c
+setup-caused line.FileFault before now not c = c
+setup-caused line.FileTooLong before now not c = c
+setup-caused (line.KernelText n k) before now not c = c
+setup-caused line.TooManyKernels before now not c = c
+setup-caused line.TooManyValues before now not c = c
+setup-caused line.NotLoaded before now not c = c
+setup-caused line.NotBuilt before now not c = c
+setup-caused line.BadTime before now not c = c
+setup-caused line.OutOfMemory before now not c = absurd (not refl)
 
 pub load-refused : (files : Option Entries) (loaded : List Kernel) (name : List ℕ) (fault : LineFault) → fault ≢ line.OutOfMemory → LoadRefuses files loaded name fault → LoadGives files loaded name (Err fault)
 load-refused files loaded name line.BadCommand not h = h
@@ -237,33 +233,33 @@ load-refused files loaded name line.BadTime not h = h
 load-refused files loaded name line.OutOfMemory not h = absurd (not refl)
 
 -- a status other than that of a refused setup wants no cause
-pub lines-caused : (status : Status) (Missed Failed Long : Type 0) → IsOfLines status → IsStatusCaused status Missed Failed Long
-lines-caused Done Missed Failed Long h = tt
-lines-caused SomeRefused Missed Failed Long h = tt
-lines-caused (BadWords w) Missed Failed Long h = absurd h
-lines-caused (BadSetup c) Missed Failed Long h = absurd h
-lines-caused ReadFault Missed Failed Long h = tt
-lines-caused WriteFault Missed Failed Long h = tt
-lines-caused OutOfMemory Missed Failed Long h = tt
-lines-caused InputTooLong Missed Failed Long h = tt
+pub lines-caused : (status : Status) (before now : FileCounts) → IsOfLines status → IsStatusCaused status before now
+lines-caused Done before now h = tt
+lines-caused SomeRefused before now h = tt
+lines-caused (BadWords w) before now h = absurd h
+lines-caused (BadSetup c) before now h = absurd h
+lines-caused ReadFault before now h = tt
+lines-caused WriteFault before now h = tt
+lines-caused OutOfMemory before now h = tt
+lines-caused InputTooLong before now h = tt
 
 -- what was delivered has the cause of what was to be
-pub delivered-caused : (output : List ℕ) (fault : LineFault) (status : Status) (taken after : Option (List ℕ)) (Missed Failed Long : Type 0) → IsCaused fault Missed Failed Long
-    → Delivers output (BadSetup fault) taken after status → IsStatusCaused status Missed Failed Long
-delivered-caused output fault status taken after Missed Failed Long c (inl (appends, same)) =
-    let P : Status → Type 0 = λ s. IsStatusCaused s Missed Failed Long in
+pub delivered-caused : (output : List ℕ) (fault : LineFault) (status : Status) (taken after : Option (List ℕ)) (before now : FileCounts) → IsCaused fault before now
+    → Delivers output (BadSetup fault) taken after status → IsStatusCaused status before now
+delivered-caused output fault status taken after before now c (inl (appends, same)) =
+    let P : Status → Type 0 = λ s. IsStatusCaused s before now in
     subst P (sym same) c
-delivered-caused output fault status taken after Missed Failed Long c (inr (took, cut)) = cut-caused status Missed Failed Long cut
+delivered-caused output fault status taken after before now c (inr (took, cut)) = cut-caused status before now cut
   where
-    cut-caused : (status : Status) (Missed Failed Long : Type 0) → IsCut status → IsStatusCaused status Missed Failed Long
-    cut-caused Done Missed Failed Long h = absurd h
-    cut-caused SomeRefused Missed Failed Long h = absurd h
-    cut-caused (BadWords w) Missed Failed Long h = absurd h
-    cut-caused (BadSetup c) Missed Failed Long h = absurd h
-    cut-caused ReadFault Missed Failed Long h = absurd h
-    cut-caused WriteFault Missed Failed Long h = tt
-    cut-caused OutOfMemory Missed Failed Long h = tt
-    cut-caused InputTooLong Missed Failed Long h = absurd h
+    cut-caused : (status : Status) (before now : FileCounts) → IsCut status → IsStatusCaused status before now
+    cut-caused Done before now h = absurd h
+    cut-caused SomeRefused before now h = absurd h
+    cut-caused (BadWords w) before now h = absurd h
+    cut-caused (BadSetup c) before now h = absurd h
+    cut-caused ReadFault before now h = absurd h
+    cut-caused WriteFault before now h = tt
+    cut-caused OutOfMemory before now h = tt
+    cut-caused InputTooLong before now h = absurd h
 
 pub delivered-of-job : (output : List ℕ) (fault : LineFault) (status : Status) (taken after : Option (List ℕ)) → Delivers output (BadSetup fault) taken after status → IsOfJob status
 delivered-of-job output fault status taken after (inl (appends, same)) =
@@ -292,7 +288,7 @@ lines-of-job OutOfMemory h = tt
 lines-of-job InputTooLong h = tt
 
 -- a run of lines without an input to read is of one line
-pub lines-no-input : (job : Job) (status : Status) → IsOfLines status → HasNoInput job status → job.work ≢ Batch
+pub lines-no-input : (job : Job) (status : Status) → IsOfLines status → ReadsNone job status → job.work ≢ Batch
 lines-no-input job Done l h = h
 lines-no-input job SomeRefused l h = h
 lines-no-input job (BadWords w) l h = absurd l
@@ -303,7 +299,7 @@ lines-no-input job OutOfMemory l h = h
 lines-no-input job InputTooLong l h = h
 
 -- a run that read nothing by the words had no input by their job
-pub no-input : (words : List (List ℕ)) (job : Job) (status : Status) → AskFor words job → ReadsNothing words status → HasNoInput job status
+pub no-input : (words : List (List ℕ)) (job : Job) (status : Status) → AskFor words job → ReadsNothing words status → ReadsNone job status
 no-input words job Done asked h = λ e. h job asked e
 no-input words job SomeRefused asked h = λ e. h job asked e
 no-input words job (BadWords w) asked h = tt
@@ -315,7 +311,7 @@ no-input words job InputTooLong asked h = λ e. h job asked e
 
 -- a run that read all by the words did so by their job
 pub reads-all : (words : List (List ℕ)) (job : Job) (status : Status) → ((other : Job) → AskFor words other → other ≡ job) → ReadsAll words status
-    → (job.work ≡ Batch) × IsWhole status
+    → (job.work ≡ Batch) × AnswersAll status
 reads-all words job Done one (other, asked, e) = (sym (ap (λ (j : Job). j.work) (one other asked)) ∙ e, tt)
 reads-all words job SomeRefused one (other, asked, e) = (sym (ap (λ (j : Job). j.work) (one other asked)) ∙ e, tt)
 reads-all words job (BadWords w) one h = absurd h
@@ -351,7 +347,7 @@ delivered-of-setup output fault status taken after (inr (took, cut)) = cut-of-se
 pub not-read : (status other : Status) → IsOfSetup status → (IsOfSetup other → ⊥) → status ≡ other → ⊥
 not-read status other h not e = not (subst IsOfSetup e h)
 
-pub not-whole : (status : Status) → IsOfSetup status → IsWhole status → ⊥
+pub not-whole : (status : Status) → IsOfSetup status → AnswersAll status → ⊥
 not-whole Done h w = h
 not-whole SomeRefused h w = h
 not-whole (BadWords f) h w = w

@@ -7,15 +7,15 @@ use Rattle.st_batch.specs.declared.answer.Answer.{Answer}
 use Rattle.st_batch.specs.declared.answer.Answer.TheVariants.{Text, Refused}
 use Rattle.st_batch.specs.declared.fault.LineFault.TheVariants.{BadCommand, LineTooLong, NoFile, FileFault, FileTooLong, KernelText, TooManyKernels, TooManyValues, NotLoaded, NotBuilt, BadTime, OutOfMemory}
 use Rattle.st_batch.specs.declared.session.TheConstants.{MAX_LINE}
-use Rattle.st_batch.specs.Causes.{IsAnswerCaused}
+use Rattle.st_batch.specs.Causes.{FileCounts, IsAnswerCaused}
 use Rattle.st_batch.specs.Line.{TimeGives}
 use Rattle.st_batch.specs.Session.{IsLine, MayAnswer}
 use Rattle.st_batch.specs.SessionMachine.{CommandAnswers, TimeLineGives}
 
 -- an answer that has its cause isn't want of memory
-pub not-memory : (answer : Answer) (Missed Failed Long : Type 0) → IsAnswerCaused answer Missed Failed Long → answer ≢ Refused OutOfMemory
-not-memory answer Missed Failed Long caused e =
-    let P : Answer → Type 0 = λ a. IsAnswerCaused a Missed Failed Long in
+pub not-memory : (answer : Answer) (before now : FileCounts) → IsAnswerCaused answer before now → answer ≢ Refused OutOfMemory
+not-memory answer before now caused e =
+    let P : Answer → Type 0 = λ a. IsAnswerCaused a before now in
     subst P e caused
 
 -- the answer of a command's text is the answer of its line

@@ -1,5 +1,5 @@
--- Refusals and ends of a run that come only with a cause outside: a count of the files, the input or the output that rose.
-use Rattle.std.specs.Prelude.{ℕ, ◌+◌, ◌-◌, ◌^◌, ◌≤◌, min, count_by, Bool, true, false, List, ⊤}
+-- Refusals that come only with a cause outside: a count of the files that rose.
+use Rattle.std.specs.Prelude.{◌≡◌, ℕ, ◌+◌, ◌*◌, ◌-◌, ◌^◌, ◌≤◌, min, count_by, Bool, true, false, List, ⊤}
 use Rattle.st_batch.specs.declared.answer.Answer.{Answer}
 use Rattle.st_batch.specs.declared.answer.Answer.TheVariants.{Refused}
 use Rattle.st_batch.specs.declared.fault.LineFault.{LineFault}
@@ -11,10 +11,11 @@ use Rattle.st_batch.specs.declared.status.Status.TheVariants.{BadSetup}
 abbrev pub RoseBy : ℕ → ℕ → ℕ → Type 0
 RoseBy n before now = min (before + n) (2 ^ 64 - 1) ≤ now
 
--- the counts of the files: names that weren't found, and calls that failed
-pub record Counts : Type 0 where
+-- the counts of the files: names that weren't found, calls that failed, and bytes that were given
+pub record FileCounts : Type 0 where
   pub misses : ℕ
   pub faults : ℕ
+  pub taken : ℕ
 
 abbrev pub is_no_file : Answer → Bool
 is_no_file (Refused line.NoFile) = true
@@ -24,30 +25,37 @@ abbrev pub is_file_fault : Answer → Bool
 is_file_fault (Refused line.FileFault) = true
 is_file_fault answer = false
 
--- each answer that names a missing file has a miss of its own, and each that names a faulty one a fault of its own
-pub record AreCounted (before now : Counts) (answers : List Answer) : Type 0 where
+abbrev pub is_file_too_long : Answer → Bool
+is_file_too_long (Refused line.FileTooLong) = true
+is_file_too_long answer = false
+
+-- Each answer that names a missing file has a miss of its own, each that names a faulty one a fault of its own, and each that
+-- names one that is too long more bytes of its own than a file may have.
+pub record AreCounted (before now : FileCounts) (answers : List Answer) : Type 0 where
   pub misses : RoseBy (count_by is_no_file answers) before.misses now.misses
   pub faults : RoseBy (count_by is_file_fault answers) before.faults now.faults
+  pub taken : RoseBy (count_by is_file_too_long answers * 16_777_217) before.taken now.taken
 
--- a file that isn't there has a miss, a faulty one a fault, one that is too long many bytes taken, and want of memory no line
-abbrev pub IsCaused : LineFault → Type 0 → Type 0 → Type 0 → Type 0
-IsCaused line.NoFile Missed Failed Long = Missed
-IsCaused line.FileFault Missed Failed Long = Failed
-IsCaused line.FileTooLong Missed Failed Long = Long
-IsCaused line.OutOfMemory Missed Failed Long = ⊥
-IsCaused cause Missed Failed Long = ⊤
+-- Refusals with a cause in one call: a file that isn't there has a miss and no fault, a faulty one a fault, and one that is too
+-- long more bytes taken than a file may have. Want of memory refuses no line.
+abbrev pub IsCaused : LineFault → FileCounts → FileCounts → Type 0
+IsCaused line.NoFile before now = RoseBy 1 before.misses now.misses × (now.faults ≡ before.faults)
+IsCaused line.FileFault before now = RoseBy 1 before.faults now.faults
+IsCaused line.FileTooLong before now = RoseBy 16_777_217 before.taken now.taken
+IsCaused line.OutOfMemory before now = ⊥
+IsCaused cause before now = ⊤
 
 -- the same of an answer
-abbrev pub IsAnswerCaused : Answer → Type 0 → Type 0 → Type 0 → Type 0
-IsAnswerCaused (Refused cause) Missed Failed Long = IsCaused cause Missed Failed Long
-IsAnswerCaused answer Missed Failed Long = ⊤
+abbrev pub IsAnswerCaused : Answer → FileCounts → FileCounts → Type 0
+IsAnswerCaused (Refused cause) before now = IsCaused cause before now
+IsAnswerCaused answer before now = ⊤
 
--- the same of a setup that was refused, where want of memory is free
-abbrev pub IsSetupCaused : LineFault → Type 0 → Type 0 → Type 0 → Type 0
-IsSetupCaused line.OutOfMemory Missed Failed Long = ⊤
-IsSetupCaused cause Missed Failed Long = IsCaused cause Missed Failed Long
+-- the same of a loading that was refused, where want of memory is free
+abbrev pub IsLoadCaused : LineFault → FileCounts → FileCounts → Type 0
+IsLoadCaused line.OutOfMemory before now = ⊤
+IsLoadCaused cause before now = IsCaused cause before now
 
 -- the same of a run whose setup was refused
-abbrev pub IsStatusCaused : Status → Type 0 → Type 0 → Type 0 → Type 0
-IsStatusCaused (BadSetup cause) Missed Failed Long = IsCaused cause Missed Failed Long
-IsStatusCaused status Missed Failed Long = ⊤
+abbrev pub IsStatusCaused : Status → FileCounts → FileCounts → Type 0
+IsStatusCaused (BadSetup cause) before now = IsCaused cause before now
+IsStatusCaused status before now = ⊤

@@ -10,7 +10,7 @@ pub record IsFileName (name : List ℕ) : Type 0 where
   pub utf8 : IsUtf8 name
 
 -- the text is a word, some blanks, and a name, which begins behind the last of them
-pub record Names (word text name : List ℕ) : Type 0 where
+pub record NamesFile (word text name : List ℕ) : Type 0 where
   pub blanks : List ℕ
   pub spelled : text ≡ word ++ (blanks ++ name)
   pub some : 1 ≤ length blanks
@@ -19,10 +19,10 @@ pub record Names (word text name : List ℕ) : Type 0 where
   pub is_name : IsFileName name
 
 abbrev pub IsLoad : List ℕ → List ℕ → Type 0
-IsLoad text name = Names (codes "$load") text name
+IsLoad text name = NamesFile (codes "$load") text name
 
 abbrev pub IsUnload : List ℕ → List ℕ → Type 0
-IsUnload text name = Names (codes "$unload") text name
+IsUnload text name = NamesFile (codes "$unload") text name
 
 abbrev pub IsClear : List ℕ → Type 0
 IsClear text = text ≡ codes "$clear"

@@ -25,12 +25,12 @@ pub record IsTold (o : Outside) (files : Entries) (input : List ℕ) : Type 0 wh
   pub no_fault : o.now.faults ≡ o.before.faults
   pub not_last : o.before.faults < 2 ^ 64 - 1
 
--- Where the files had no fault the words, the files and the input allow one whole output, with one status.
+-- Where the files had no fault the words, the files and the input allow one whole output, with one status, whatever the counts are.
 abbrev pub OneOutput : Type 0
 OneOutput =
-    (o : Outside) (files : Entries) (input : List ℕ) (words : List (List ℕ)) (first second : Status) (one other : List ℕ)
-    → IsTold o files input → IsComplete first → IsComplete second
-    → Outcome o words first one → Outcome o words second other → (first ≡ second) × (one ≡ other)
+    (o p : Outside) (files : Entries) (input : List ℕ) (words : List (List ℕ)) (first second : Status) (one other : List ℕ)
+    → IsTold o files input → IsTold p files input → IsComplete first → IsComplete second
+    → Outcome o words first one → Outcome p words second other → (first ≡ second) × (one ≡ other)
 
 -- Every line has an answer by every loaded list and all files, and one that names no fault of the files.
 abbrev pub EveryLineHasAnswer : Type 0

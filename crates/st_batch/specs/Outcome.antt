@@ -12,7 +12,7 @@ use Rattle.st_batch.specs.declared.job.Job.{Job}
 use Rattle.st_batch.specs.declared.job.Work.TheVariants.{Batch}
 use Rattle.st_batch.specs.declared.status.Status.{Status}
 use Rattle.st_batch.specs.declared.status.Status.TheVariants.{Done, SomeRefused, BadWords, BadSetup, ReadFault, WriteFault, OutOfMemory, InputTooLong}
-use Rattle.st_batch.specs.Causes.{Counts, AreCounted, RoseBy, is_file_fault}
+use Rattle.st_batch.specs.Causes.{FileCounts, AreCounted, RoseBy, is_file_fault}
 use Rattle.st_batch.specs.Load.{LoadGives}
 use Rattle.st_batch.specs.Session.{RunsTo}
 use Rattle.st_batch.specs.Texts.{refusal_text}
@@ -35,8 +35,8 @@ status_of answers = if list_any is_refused answers then SomeRefused else Done
 pub record Outside : Type 0 where
   pub files : Option Entries
   pub input : Option (List ℕ)
-  pub before : Counts
-  pub now : Counts
+  pub before : FileCounts
+  pub now : FileCounts
 
 -- The session of a job: the setup is loaded, and then these lines are answered.
 pub record Answers (o : Outside) (job : Job) (lines : List (List ℕ)) (answers : List Answer) : Type 0 where
@@ -109,12 +109,17 @@ Outcome o words InputTooLong bytes = BeginsAnswers o words bytes × IsLongInput 
 Outcome o words WriteFault bytes = BeginsAllowed o words bytes
 Outcome o words OutOfMemory bytes = BeginsAllowed o words bytes
 
--- where the output tells its bytes, it took some more, which meet P
-abbrev pub WhereTold : Option (List ℕ) → Option (List ℕ) → (List ℕ → Type 0) → Type 0
-WhereTold None after P = ⊤
-WhereTold (Some xs) after P = (bytes : List ℕ) × Appends (Some xs) after bytes × P bytes
+-- there are bytes that meet P and that the output took, where it tells that
+abbrev pub Took : Option (List ℕ) → Option (List ℕ) → (List ℕ → Type 0) → Type 0
+Took before after P = (bytes : List ℕ) × Appends before after bytes × P bytes
 
--- a run that ended so had no input to read
+-- all lines were answered
+abbrev pub AnswersAll : Status → Type 0
+AnswersAll Done = ⊤
+AnswersAll SomeRefused = ⊤
+AnswersAll status = ⊥
+
+-- a run of these words that ended so read nothing
 abbrev pub ReadsNothing : List (List ℕ) → Status → Type 0
 ReadsNothing words (BadWords fault) = ⊤
 ReadsNothing words (BadSetup cause) = ⊤

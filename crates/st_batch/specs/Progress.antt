@@ -12,7 +12,7 @@ use Rattle.st_batch.specs.declared.answering.Answering.{Answering}
 use Rattle.st_batch.specs.declared.job.Work.{Work}
 use Rattle.st_batch.specs.declared.status.Status.{Status}
 use Rattle.st_batch.specs.declared.status.Status.TheVariants.{Done, SomeRefused, BadWords, BadSetup, WriteFault, OutOfMemory, InputTooLong}
-use Rattle.st_batch.specs.Causes.{Counts, AreCounted}
+use Rattle.st_batch.specs.Causes.{FileCounts, AreCounted, RoseBy}
 use Rattle.st_batch.specs.Outcome.{Outside, line_of, is_refused, status_of, IsLongInput}
 use Rattle.st_batch.specs.Session.{MayAnswer, RunsTo}
 use Rattle.st_batch.specs.Taken.{TakesPrefix}
@@ -20,17 +20,18 @@ use Rattle.st_batch.specs.Words.{AreLines, IsShortInput}
 
 -- a moment of the answering: the files' counts, the bytes that the output took, and the session with what isn't written
 pub record Moment : Type 0 where
-  pub counts : Counts
+  pub counts : FileCounts
   pub taken : Option (List ℕ)
   pub answering : Answering
 
 -- no count fell
-pub record AreLater (before now : Counts) : Type 0 where
+pub record AreLater (before now : FileCounts) : Type 0 where
   pub misses : before.misses ≤ now.misses
   pub faults : before.faults ≤ now.faults
+  pub taken : RoseBy 0 before.taken now.taken
 
 -- a line was answered, and its answer gathered
-pub record AnswersOne (files : Option Entries) (before now : Counts) (from to : Answering) (line : List ℕ) : Type 0 where
+pub record AnswersOne (files : Option Entries) (before now : FileCounts) (from to : Answering) (line : List ℕ) : Type 0 where
   pub answer : Answer
   pub answered : MayAnswer files from.session line answer to.session
   pub counted : AreCounted before now (answer ∷ [])
@@ -56,7 +57,7 @@ pub record Advances (files : Option Entries) (from to : Moment) (lines : List (L
   pub refused : to.answering.refused ≡ (from.answering.refused || list_any is_refused answers)
 
 -- from a moment on these lines were answered, and a beginning of their answers was written
-pub record Stops (files : Option Entries) (from : Moment) (counts : Counts) (taken : Option (List ℕ)) (lines : List (List ℕ)) : Type 0 where
+pub record Stops (files : Option Entries) (from : Moment) (counts : FileCounts) (taken : Option (List ℕ)) (lines : List (List ℕ)) : Type 0 where
   pub answers : List Answer
   pub after : List Kernel
   pub written : List ℕ
@@ -67,7 +68,7 @@ pub record Stops (files : Option Entries) (from : Moment) (counts : Counts) (tak
   pub gathered : from.answering.gathered.items ++ flat_map line_of answers ≡ written ++ rest
 
 -- from a moment on these lines were answered, and all their answers written
-pub record Completes (files : Option Entries) (from : Moment) (counts : Counts) (taken : Option (List ℕ)) (lines : List (List ℕ)) (status : Status) : Type 0 where
+pub record Completes (files : Option Entries) (from : Moment) (counts : FileCounts) (taken : Option (List ℕ)) (lines : List (List ℕ)) (status : Status) : Type 0 where
   pub answers : List Answer
   pub after : List Kernel
   pub answered : RunsTo files from.answering.session lines answers after
@@ -76,14 +77,14 @@ pub record Completes (files : Option Entries) (from : Moment) (counts : Counts) 
   pub ended : status ≡ (if from.answering.refused || list_any is_refused answers then SomeRefused else Done)
 
 -- the answering stopped within these lines
-pub record StopsWithin (files : Option Entries) (from : Moment) (counts : Counts) (taken : Option (List ℕ)) (lines : List (List ℕ)) : Type 0 where
+pub record StopsWithin (files : Option Entries) (from : Moment) (counts : FileCounts) (taken : Option (List ℕ)) (lines : List (List ℕ)) : Type 0 where
   pub first : List (List ℕ)
   pub more : List (List ℕ)
   pub among : lines ≡ first ++ more
   pub stopped : Stops files from counts taken first
 
 -- how the answering of lines that are at hand ended
-abbrev pub Finishes : Option Entries → Moment → Counts → Option (List ℕ) → List (List ℕ) → Status → Type 0
+abbrev pub Finishes : Option Entries → Moment → FileCounts → Option (List ℕ) → List (List ℕ) → Status → Type 0
 Finishes files from counts taken lines Done = Completes files from counts taken lines Done
 Finishes files from counts taken lines SomeRefused = Completes files from counts taken lines SomeRefused
 Finishes files from counts taken lines WriteFault = StopsWithin files from counts taken lines
@@ -128,7 +129,7 @@ pub record Reads (files : Option Entries) (from to : Moment) (begun text next : 
   pub no_feed : HasNoFeed next
 
 -- the answering of the lines that end in a text stopped
-pub record Halts (files : Option Entries) (from : Moment) (counts : Counts) (taken : Option (List ℕ)) (begun text : List ℕ) : Type 0 where
+pub record Halts (files : Option Entries) (from : Moment) (counts : FileCounts) (taken : Option (List ℕ)) (begun text : List ℕ) : Type 0 where
   pub lines : List (List ℕ)
   pub ends : EndsLines begun text lines
   pub stopped : Stops files from counts taken lines
@@ -184,9 +185,3 @@ abbrev pub IsOfLines : Status → Type 0
 IsOfLines (BadWords fault) = ⊥
 IsOfLines (BadSetup cause) = ⊥
 IsOfLines status = ⊤
-
--- all lines were answered
-abbrev pub IsWhole : Status → Type 0
-IsWhole Done = ⊤
-IsWhole SomeRefused = ⊤
-IsWhole status = ⊥

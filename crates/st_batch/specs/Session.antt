@@ -30,7 +30,7 @@ pub record IsLine (line text : List ℕ) : Type 0 where
   pub short : length line ≤ 1000
   pub trimmed : text ≡ trimmed line
 
--- the text begins as a time does
+-- the text does not begin as a command does
 abbrev pub IsTime : List ℕ → Type 0
 IsTime text = begins_command text ≡ false
 
@@ -47,7 +47,7 @@ MayRefuse files loaded text BadTime =
     IsTime text × ((table : List LeapPair) × GiveTable loaded table) × ((label : Label) → IsUtcTime text label → ⊥)
 MayRefuse files loaded text cause = (name : List ℕ) × IsLoad text name × LoadGives files loaded name (Err cause)
 
--- A command that is carried out says so: the loaded list after it is another.
+-- A command that is carried out says so, and gives the loaded list after it.
 abbrev pub CarriesOut : Option Entries → List Kernel → List ℕ → List ℕ → List Kernel → Type 0
 CarriesOut files loaded text said after =
     ((name : List ℕ) × IsLoad text name × LoadGives files loaded name (Ok after) × (said ≡ codes "loaded"))

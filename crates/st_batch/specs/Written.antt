@@ -8,7 +8,7 @@ use Rattle.st_batch.specs.declared.job.Work.TheVariants.{Batch}
 use Rattle.st_batch.specs.declared.status.Status.TheVariants.{BadWords, BadSetup, WriteFault, OutOfMemory}
 use Rattle.st_batch.specs.Taken.{TakesPrefix}
 
--- The words are refused exactly where a fact holds of them. A run that was cut off says nothing of it.
+-- The words are refused exactly where a fact holds of them. A run that the output or want of memory cut off says nothing of it.
 abbrev pub WordsFit : Status → Type 0 → Type 0
 WordsFit (BadWords NotBuilt) P = P
 WordsFit (BadWords fault) P = ⊥
@@ -32,8 +32,8 @@ abbrev pub IsOfJob : Status → Type 0
 IsOfJob (BadWords fault) = ⊥
 IsOfJob status = ⊤
 
--- a run of this job, which ended so, had no input to read
-abbrev pub HasNoInput : Job → Status → Type 0
-HasNoInput job (BadWords fault) = ⊤
-HasNoInput job (BadSetup cause) = ⊤
-HasNoInput job status = job.work ≢ Batch
+-- a run of this job that ended so read nothing
+abbrev pub ReadsNone : Job → Status → Type 0
+ReadsNone job (BadWords fault) = ⊤
+ReadsNone job (BadSetup cause) = ⊤
+ReadsNone job status = job.work ≢ Batch

@@ -1,6 +1,6 @@
 //! What a line is answered.
 
-ghost use Rattle.std.specs.Prelude.{◌≡◌, ◌≢◌, [], ◌∷◌, ◌++◌, codes, IfOk, OnOk};
+ghost use Rattle.std.specs.Prelude.{◌≡◌, ◌≢◌, [], ◌∷◌, ◌++◌, codes, IfOk, OnOk, OnErr};
 ghost use Rattle.st_batch.specs.Outcome.{line_of};
 ghost use Rattle.st_batch.specs.declared.answer.Answer.TheVariants.{Text, Refused};
 ghost use Rattle.st_batch.specs.Texts as texts;
@@ -56,10 +56,11 @@ pub fn put_refused(out: &mut Vec<u8>, words: &[u8], fault: &LineFault) -> Result
 ///
 /// # Errors
 ///
-/// `OutOfMemory`; a beginning of the text may then stand.
+/// `OutOfMemory`; nothing is then appended.
 pub fn put_refusal(out: &mut Vec<u8>, fault: &LineFault) -> Result<(), OutOfMemory>
     requires { fault.now ≢ LineFault.OutOfMemory }
-    ensures { OnOk result (out.new.items ≡ out.old.items ++ texts.refusal_text fault.now) }
+    ensures ok { OnOk result (out.new.items ≡ out.old.items ++ texts.refusal_text fault.now) }
+    ensures err { OnErr result (out.new.items ≡ out.old.items) }
 {
     match *fault {
         LineFault::BadCommand => out.extend_from_slice(b"BAD_COMMAND"),
@@ -79,13 +80,16 @@ pub fn put_refusal(out: &mut Vec<u8>, fault: &LineFault) -> Result<(), OutOfMemo
 
 /// Appends where a file is no kernel, and what breaks there.
 fn put_kernel_text(out: &mut Vec<u8>, line: u64, cause: TextCause) -> Result<(), OutOfMemory>
-    ensures { OnOk result (out.new.items
+    ensures ok { OnOk result (out.new.items
         ≡ out.old.items ++ (codes "KERNEL_TEXT " ++ (decimal_digits line ++ (32 ∷ texts.cause_text cause)))) }
+    ensures err { OnErr result (out.new.items ≡ out.old.items) }
 {
-    out.extend_from_slice(b"KERNEL_TEXT ")?;
-    put_fixed(out, i128::from(line), 0)?;
-    out.push(b' ')?;
-    out.extend_from_slice(cause_text(cause))?;
+    let mut text = Vec::new(*out.allocator());
+    text.extend_from_slice(b"KERNEL_TEXT ")?;
+    put_fixed(&mut text, i128::from(line), 0)?;
+    text.push(b' ')?;
+    text.extend_from_slice(cause_text(cause))?;
+    out.extend_from_slice(text.as_slice())?;
     Ok(())
 }
 

@@ -1,7 +1,7 @@
 //! The commands of a session.
 
 ghost use Rattle.std.specs.Prelude.{◌≡◌, true, false, IfSome, IsNone, ℕ, List};
-ghost use Rattle.st_batch.specs.Commands.{IsFileName, Names};
+ghost use Rattle.st_batch.specs.Commands.{IsFileName, NamesFile};
 
 use st_text::skip_blanks;
 use std::str;
@@ -11,8 +11,8 @@ pub const MAX_NAME: usize = 255;
 
 /// The name behind a command's word and at least one blank.
 pub fn name_behind<'a>(word: &[u8], text: &'a [u8]) -> Option<&'a [u8]>
-    ensures some { IfSome result (λ name. Names word.now text.now name.now) }
-    ensures none { IsNone result → (name : List ℕ) → Names word.now text.now name → ⊥ }
+    ensures some { IfSome result (λ name. NamesFile word.now text.now name.now) }
+    ensures none { IsNone result → (name : List ℕ) → NamesFile word.now text.now name → ⊥ }
 {
     let behind = text.strip_prefix(word)?;
     let name = skip_blanks(behind);

@@ -1,11 +1,12 @@
 //! The lines of the input.
 
-ghost use Rattle.std.specs.Prelude.{◌≡◌, ◌≢◌, ◌≤◌, ◌==◌, false, [], ◌∷◌, ◌++◌, length, position, MatchOption, OnOk, OnErr, IsErrOf};
+ghost use Rattle.std.specs.Prelude.{◌≡◌, ◌+◌, ◌≢◌, ◌≤◌, ◌==◌, false, [], ◌∷◌, ◌++◌, length, position, MatchOption, OnOk, OnErr, IsErrOf};
 ghost use Rattle.std.specs.Io.KnownBytes.{IsAtEnd};
 ghost use Rattle.st_outside.specs.Causes.{Rose, RoseBeyond};
+ghost use Rattle.st_batch.specs.Causes.{FileCounts, RoseBy};
 ghost use Rattle.st_text.specs.Lines as lines;
-ghost use Rattle.st_batch.specs.Outcome.{IsLongInput, WhereTold};
-ghost use Rattle.st_batch.specs.Progress.{AnswersOne, CutsAtFeed, Finishes, FinishesWriting, Halts, HasNoFeed, IsOfLines, IsWhole, LinesEnd, Reads, stopped_by};
+ghost use Rattle.st_batch.specs.Outcome.{AnswersAll, Took};
+ghost use Rattle.st_batch.specs.Progress.{AnswersOne, CutsAtFeed, Finishes, FinishesWriting, Halts, HasNoFeed, IsOfLines, LinesEnd, Reads, stopped_by};
 ghost use Rattle.st_batch.specs.declared.job.Work.TheVariants.{Batch};
 
 use crate::answering::Answering;
@@ -32,18 +33,19 @@ pub fn answer_lines<F: Files, I: Source, O: Sink>(
     input: &mut I,
     out: &mut O,
 ) -> Status
-    ensures told { WhereTold (O.taken out.old) (O.taken out.new) (λ bytes. LinesEnd
+    ensures told { Took (O.taken out.old) (O.taken out.new) (λ bytes. LinesEnd
         (record {
           files = F.map files.old;
           input = I.left input.old;
-          before = record { misses = F.misses files.old; faults = F.faults files.old };
-          now = record { misses = F.misses files.new; faults = F.faults files.new };
+          before = record { misses = F.misses files.old; faults = F.faults files.old; taken = F.taken files.old };
+          now = record { misses = F.misses files.new; faults = F.faults files.new; taken = F.taken files.new };
         }) work.now session result bytes) }
     ensures of_lines { IsOfLines result }
     ensures write_fault { result ≡ Status.WriteFault → Rose (O.faults out.old) (O.faults out.new) }
     ensures read_fault { result ≡ Status.ReadFault → Rose (I.faults input.old) (I.faults input.new) }
     ensures too_long { result ≡ Status.InputTooLong → RoseBeyond 67108864 (I.taken input.old) (I.taken input.new) }
-    ensures whole { work.now ≡ Work.Batch → IsWhole result → IsAtEnd (I.left input.new) }
+    ensures whole { work.now ≡ Work.Batch → AnswersAll result → IsAtEnd (I.left input.new) }
+    ensures short { AnswersAll result → I.taken input.new ≤ I.taken input.old + 67108864 }
     ensures left { work.now ≢ Work.Batch → I.left input.new ≡ I.left input.old }
     ensures taken { work.now ≢ Work.Batch → I.taken input.new ≡ I.taken input.old }
     ensures faults { work.now ≢ Work.Batch → I.faults input.new ≡ I.faults input.old }
@@ -51,6 +53,7 @@ pub fn answer_lines<F: Files, I: Source, O: Sink>(
     ensures map { F.map files.new ≡ F.map files.old }
     ensures misses_later { F.misses files.old ≤ F.misses files.new }
     ensures faults_later { F.faults files.old ≤ F.faults files.new }
+    ensures taken_later { RoseBy 0 (F.taken files.old) (F.taken files.new) }
 {
     let mut answering = Answering::new(alloc, session);
     match work {
@@ -68,22 +71,24 @@ fn answer_input<F: Files, I: Source, O: Sink>(
 ) -> Status
     requires gathered { answering.old.gathered.items ≡ [] }
     requires refused { answering.old.refused ≡ false }
-    ensures told { WhereTold (O.taken out.old) (O.taken out.new) (λ bytes. LinesEnd
+    ensures told { Took (O.taken out.old) (O.taken out.new) (λ bytes. LinesEnd
         (record {
           files = F.map files.old;
           input = I.left input.old;
-          before = record { misses = F.misses files.old; faults = F.faults files.old };
-          now = record { misses = F.misses files.new; faults = F.faults files.new };
+          before = record { misses = F.misses files.old; faults = F.faults files.old; taken = F.taken files.old };
+          now = record { misses = F.misses files.new; faults = F.faults files.new; taken = F.taken files.new };
         }) Batch answering.old.session result bytes) }
     ensures of_lines { IsOfLines result }
     ensures write_fault { result ≡ Status.WriteFault → Rose (O.faults out.old) (O.faults out.new) }
     ensures read_fault { result ≡ Status.ReadFault → Rose (I.faults input.old) (I.faults input.new) }
     ensures too_long { result ≡ Status.InputTooLong → RoseBeyond 67108864 (I.taken input.old) (I.taken input.new) }
-    ensures whole { IsWhole result → IsAtEnd (I.left input.new) }
+    ensures whole { AnswersAll result → IsAtEnd (I.left input.new) }
+    ensures short { AnswersAll result → I.taken input.new ≤ I.taken input.old + 67108864 }
     ensures closed { F.opened files.old ≡ false → F.opened files.new ≡ false }
     ensures map { F.map files.new ≡ F.map files.old }
     ensures misses_later { F.misses files.old ≤ F.misses files.new }
     ensures faults_later { F.faults files.old ≤ F.faults files.new }
+    ensures taken_later { RoseBy 0 (F.taken files.old) (F.taken files.new) }
 {
     let mut begun = Vec::new(answering.alloc);
     let mut piece = [0u8; PIECE];
@@ -115,13 +120,14 @@ fn answer_last<F: Files, O: Sink>(
 ) -> Status
     requires { HasNoFeed begun.now }
     ensures finished { Finishes (F.map files.old)
-        (record { counts = record { misses = F.misses files.old; faults = F.faults files.old }; taken = O.taken out.old; answering = answering.old })
-        (record { misses = F.misses files.new; faults = F.faults files.new }) (O.taken out.new) (lines.lines_of begun.now) result }
+        (record { counts = record { misses = F.misses files.old; faults = F.faults files.old; taken = F.taken files.old }; taken = O.taken out.old; answering = answering.old })
+        (record { misses = F.misses files.new; faults = F.faults files.new; taken = F.taken files.new }) (O.taken out.new) (lines.lines_of begun.now) result }
     ensures write_fault { result ≡ Status.WriteFault → Rose (O.faults out.old) (O.faults out.new) }
     ensures closed { F.opened files.old ≡ false → F.opened files.new ≡ false }
     ensures map { F.map files.new ≡ F.map files.old }
     ensures misses_later { F.misses files.old ≤ F.misses files.new }
     ensures faults_later { F.faults files.old ≤ F.faults files.new }
+    ensures taken_later { RoseBy 0 (F.taken files.old) (F.taken files.new) }
 {
     if begun.is_empty() {
         finish(answering, out)
@@ -138,13 +144,14 @@ fn answer_one<F: Files, O: Sink>(
     out: &mut O,
 ) -> Status
     ensures finished { Finishes (F.map files.old)
-        (record { counts = record { misses = F.misses files.old; faults = F.faults files.old }; taken = O.taken out.old; answering = answering.old })
-        (record { misses = F.misses files.new; faults = F.faults files.new }) (O.taken out.new) (line.now ∷ []) result }
+        (record { counts = record { misses = F.misses files.old; faults = F.faults files.old; taken = F.taken files.old }; taken = O.taken out.old; answering = answering.old })
+        (record { misses = F.misses files.new; faults = F.faults files.new; taken = F.taken files.new }) (O.taken out.new) (line.now ∷ []) result }
     ensures write_fault { result ≡ Status.WriteFault → Rose (O.faults out.old) (O.faults out.new) }
     ensures closed { F.opened files.old ≡ false → F.opened files.new ≡ false }
     ensures map { F.map files.new ≡ F.map files.old }
     ensures misses_later { F.misses files.old ≤ F.misses files.new }
     ensures faults_later { F.faults files.old ≤ F.faults files.new }
+    ensures taken_later { RoseBy 0 (F.taken files.old) (F.taken files.new) }
 {
     match answering.answer(line, files) {
         Ok(()) => finish(answering, out),
@@ -184,19 +191,20 @@ fn answer_piece<F: Files, O: Sink>(
 ) -> Result<(), SinkFault>
     requires { HasNoFeed begun.old.items }
     ensures ok { OnOk result (Reads (F.map files.old)
-        (record { counts = record { misses = F.misses files.old; faults = F.faults files.old }; taken = O.taken out.old; answering = answering.old })
-        (record { counts = record { misses = F.misses files.new; faults = F.faults files.new }; taken = O.taken out.new; answering = answering.new })
+        (record { counts = record { misses = F.misses files.old; faults = F.faults files.old; taken = F.taken files.old }; taken = O.taken out.old; answering = answering.old })
+        (record { counts = record { misses = F.misses files.new; faults = F.faults files.new; taken = F.taken files.new }; taken = O.taken out.new; answering = answering.new })
         begun.old.items piece.now begun.new.items) }
     ensures gathered { OnOk result (answering.new.gathered.items ≡ []) }
     ensures err { OnErr result (Halts (F.map files.old)
-        (record { counts = record { misses = F.misses files.old; faults = F.faults files.old }; taken = O.taken out.old; answering = answering.old })
-        (record { misses = F.misses files.new; faults = F.faults files.new }) (O.taken out.new) begun.old.items piece.now) }
+        (record { counts = record { misses = F.misses files.old; faults = F.faults files.old; taken = F.taken files.old }; taken = O.taken out.old; answering = answering.old })
+        (record { misses = F.misses files.new; faults = F.faults files.new; taken = F.taken files.new }) (O.taken out.new) begun.old.items piece.now) }
     ensures later { O.faults out.old ≤ O.faults out.new }
     ensures cause { IsErrOf result SinkFault.Failed → Rose (O.faults out.old) (O.faults out.new) }
     ensures closed { F.opened files.old ≡ false → F.opened files.new ≡ false }
     ensures map { F.map files.new ≡ F.map files.old }
     ensures misses_later { F.misses files.old ≤ F.misses files.new }
     ensures faults_later { F.faults files.old ≤ F.faults files.new }
+    ensures taken_later { RoseBy 0 (F.taken files.old) (F.taken files.new) }
 {
     let mut rest = piece;
     while let Some((end, behind)) = ended_line(rest) {
@@ -240,18 +248,19 @@ fn answer_ended<F: Files, O: Sink>(
     requires begun { HasNoFeed begun.old.items }
     requires end { HasNoFeed end.now }
     ensures ok { OnOk result (Reads (F.map files.old)
-        (record { counts = record { misses = F.misses files.old; faults = F.faults files.old }; taken = O.taken out.old; answering = answering.old })
-        (record { counts = record { misses = F.misses files.new; faults = F.faults files.new }; taken = O.taken out.new; answering = answering.new })
+        (record { counts = record { misses = F.misses files.old; faults = F.faults files.old; taken = F.taken files.old }; taken = O.taken out.old; answering = answering.old })
+        (record { counts = record { misses = F.misses files.new; faults = F.faults files.new; taken = F.taken files.new }; taken = O.taken out.new; answering = answering.new })
         begun.old.items (end.now ++ (10 ∷ [])) begun.new.items) }
     ensures err { OnErr result (Halts (F.map files.old)
-        (record { counts = record { misses = F.misses files.old; faults = F.faults files.old }; taken = O.taken out.old; answering = answering.old })
-        (record { misses = F.misses files.new; faults = F.faults files.new }) (O.taken out.new) begun.old.items (end.now ++ (10 ∷ []))) }
+        (record { counts = record { misses = F.misses files.old; faults = F.faults files.old; taken = F.taken files.old }; taken = O.taken out.old; answering = answering.old })
+        (record { misses = F.misses files.new; faults = F.faults files.new; taken = F.taken files.new }) (O.taken out.new) begun.old.items (end.now ++ (10 ∷ []))) }
     ensures later { O.faults out.old ≤ O.faults out.new }
     ensures cause { IsErrOf result SinkFault.Failed → Rose (O.faults out.old) (O.faults out.new) }
     ensures closed { F.opened files.old ≡ false → F.opened files.new ≡ false }
     ensures map { F.map files.new ≡ F.map files.old }
     ensures misses_later { F.misses files.old ≤ F.misses files.new }
     ensures faults_later { F.faults files.old ≤ F.faults files.new }
+    ensures taken_later { RoseBy 0 (F.taken files.old) (F.taken files.new) }
 {
     match gather_ended(answering, begun, end, files) {
         Ok(()) => answering.write_enough(out),
@@ -267,13 +276,14 @@ fn gather_ended<F: Files>(
     end: &[u8],
     files: &mut F,
 ) -> Result<(), OutOfMemory>
-    ensures ok { OnOk result (AnswersOne (F.map files.old) (record { misses = F.misses files.old; faults = F.faults files.old }) (record { misses = F.misses files.new; faults = F.faults files.new })
+    ensures ok { OnOk result (AnswersOne (F.map files.old) (record { misses = F.misses files.old; faults = F.faults files.old; taken = F.taken files.old }) (record { misses = F.misses files.new; faults = F.faults files.new; taken = F.taken files.new })
         answering.old answering.new (lines.without_cr (begun.old.items ++ end.now))) }
     ensures begun { OnOk result (begun.new.items ≡ []) }
     ensures closed { F.opened files.old ≡ false → F.opened files.new ≡ false }
     ensures map { F.map files.new ≡ F.map files.old }
     ensures misses_later { F.misses files.old ≤ F.misses files.new }
     ensures faults_later { F.faults files.old ≤ F.faults files.new }
+    ensures taken_later { RoseBy 0 (F.taken files.old) (F.taken files.new) }
 {
     if begun.is_empty() {
         return answering.answer(without_cr(end), files);

@@ -2,12 +2,13 @@
 
 ghost use Rattle.st_batch.specs.Laws.{OneOutput, EveryLineHasAnswer};
 
-/// Where no count of faults rose there is one output, so that `run` is then a function of the words and the files.
+/// Where the files and the input tell their bytes and the files had no fault there is one whole output, so that `run`,
+/// where it isn't cut off, is then a function of the words, the files and the input.
 pub fn one_output()
     ensures { OneOutput }
 {}
 
-/// Every line has an answer, so that what was written of a run that was cut off begins a whole output.
+/// Every line has an answer, so that what was written of a run that was cut off begins answers to all lines.
 pub fn every_line_has_an_answer()
     ensures { EveryLineHasAnswer }
 {}

@@ -1,14 +1,13 @@
 //! The whole run: from the words to the output.
 
-ghost use Rattle.std.specs.Prelude.{◌≡◌, ◌≢◌, ℕ, List, false, map, string_bytes, codes, [], ◌∷◌, ◌++◌};
+ghost use Rattle.std.specs.Prelude.{◌≡◌, ◌≤◌, ◌+◌, ◌≢◌, ℕ, List, false, map, string_bytes, codes, [], ◌∷◌, ◌++◌};
 ghost use Rattle.std.specs.Io.KnownBytes.{IsAtEnd};
 ghost use Rattle.st_outside.specs.Causes.{Rose, RoseBeyond};
-ghost use Rattle.st_batch.specs.Causes.{Counts, IsStatusCaused};
-ghost use Rattle.st_batch.specs.Outcome.{Outside, Outcome, ReadsAll, ReadsNothing, WhereTold};
+ghost use Rattle.st_batch.specs.Causes.{FileCounts, IsStatusCaused, RoseBy};
+ghost use Rattle.st_batch.specs.Outcome.{AnswersAll, Outside, Outcome, ReadsAll, ReadsNothing, Took};
 ghost use Rattle.st_batch.specs.Texts as texts;
-ghost use Rattle.st_batch.specs.Progress.{IsWhole};
 ghost use Rattle.st_batch.specs.Words.{AskFor, AskForNone};
-ghost use Rattle.st_batch.specs.Written.{Delivers, HasNoInput, IsCut, IsOfJob, WordsFit};
+ghost use Rattle.st_batch.specs.Written.{Delivers, ReadsNone, IsCut, IsOfJob, WordsFit};
 ghost use Rattle.st_batch.specs.declared.job.Work.TheVariants.{Batch};
 ghost use Rattle.st_batch.specs.declared.status.Status.TheVariants.{BadSetup};
 
@@ -34,26 +33,28 @@ pub fn run<F: Files, I: Source, O: Sink>(
     input: &mut I,
     out: &mut O,
 ) -> Status
-    ensures told { WhereTold (O.taken out.old) (O.taken out.new) (Outcome
+    ensures told { Took (O.taken out.old) (O.taken out.new) (Outcome
         (record {
           files = F.map files.old;
           input = I.left input.old;
-          before = record { misses = F.misses files.old; faults = F.faults files.old };
-          now = record { misses = F.misses files.new; faults = F.faults files.new };
+          before = record { misses = F.misses files.old; faults = F.faults files.old; taken = F.taken files.old };
+          now = record { misses = F.misses files.new; faults = F.faults files.new; taken = F.taken files.new };
         }) (map string_bytes words.now) result) }
 
     // The words are refused exactly where they ask for no conversion, unless the line that says so was cut off.
     ensures words { WordsFit result (AskForNone (map string_bytes words.now)) }
 
     // What comes from outside has its cause, whether bytes are told or not.
-    ensures causes { IsStatusCaused result (Rose (F.misses files.old) (F.misses files.new))
-        (Rose (F.faults files.old) (F.faults files.new)) (RoseBeyond 16777216 (F.taken files.old) (F.taken files.new)) }
+    ensures causes { IsStatusCaused result
+        (record { misses = F.misses files.old; faults = F.faults files.old; taken = F.taken files.old })
+        (record { misses = F.misses files.new; faults = F.faults files.new; taken = F.taken files.new }) }
     ensures write_fault { result ≡ Status.WriteFault → Rose (O.faults out.old) (O.faults out.new) }
     ensures read_fault { result ≡ Status.ReadFault → Rose (I.faults input.old) (I.faults input.new) }
     ensures too_long { result ≡ Status.InputTooLong → RoseBeyond 67108864 (I.taken input.old) (I.taken input.new) }
 
     // The input is read to its end where its lines were answered, and not at all where there were none to answer.
     ensures whole { ReadsAll (map string_bytes words.now) result → IsAtEnd (I.left input.new) }
+    ensures short { AnswersAll result → I.taken input.new ≤ I.taken input.old + 67108864 }
     ensures left { ReadsNothing (map string_bytes words.now) result → I.left input.new ≡ I.left input.old }
     ensures taken { ReadsNothing (map string_bytes words.now) result → I.taken input.new ≡ I.taken input.old }
     ensures faults { ReadsNothing (map string_bytes words.now) result → I.faults input.new ≡ I.faults input.old }
@@ -80,23 +81,25 @@ fn run_job<F: Files, I: Source, O: Sink>(
     input: &mut I,
     out: &mut O,
 ) -> Status
-    ensures told { (words : List (List ℕ)) → AskFor words job.now → WhereTold (O.taken out.old) (O.taken out.new) (Outcome
+    ensures told { (words : List (List ℕ)) → AskFor words job.now → Took (O.taken out.old) (O.taken out.new) (Outcome
         (record {
           files = F.map files.old;
           input = I.left input.old;
-          before = record { misses = F.misses files.old; faults = F.faults files.old };
-          now = record { misses = F.misses files.new; faults = F.faults files.new };
+          before = record { misses = F.misses files.old; faults = F.faults files.old; taken = F.taken files.old };
+          now = record { misses = F.misses files.new; faults = F.faults files.new; taken = F.taken files.new };
         }) words result) }
     ensures of_job { IsOfJob result }
-    ensures causes { IsStatusCaused result (Rose (F.misses files.old) (F.misses files.new))
-        (Rose (F.faults files.old) (F.faults files.new)) (RoseBeyond 16777216 (F.taken files.old) (F.taken files.new)) }
+    ensures causes { IsStatusCaused result
+        (record { misses = F.misses files.old; faults = F.faults files.old; taken = F.taken files.old })
+        (record { misses = F.misses files.new; faults = F.faults files.new; taken = F.taken files.new }) }
     ensures write_fault { result ≡ Status.WriteFault → Rose (O.faults out.old) (O.faults out.new) }
     ensures read_fault { result ≡ Status.ReadFault → Rose (I.faults input.old) (I.faults input.new) }
     ensures too_long { result ≡ Status.InputTooLong → RoseBeyond 67108864 (I.taken input.old) (I.taken input.new) }
-    ensures whole { job.now.work ≡ Batch → IsWhole result → IsAtEnd (I.left input.new) }
-    ensures left { HasNoInput job.now result → I.left input.new ≡ I.left input.old }
-    ensures taken { HasNoInput job.now result → I.taken input.new ≡ I.taken input.old }
-    ensures faults { HasNoInput job.now result → I.faults input.new ≡ I.faults input.old }
+    ensures whole { job.now.work ≡ Batch → AnswersAll result → IsAtEnd (I.left input.new) }
+    ensures short { AnswersAll result → I.taken input.new ≤ I.taken input.old + 67108864 }
+    ensures left { ReadsNone job.now result → I.left input.new ≡ I.left input.old }
+    ensures taken { ReadsNone job.now result → I.taken input.new ≡ I.taken input.old }
+    ensures faults { ReadsNone job.now result → I.faults input.new ≡ I.faults input.old }
     ensures closed { F.opened files.old ≡ false → F.opened files.new ≡ false }
     ensures map { F.map files.new ≡ F.map files.old }
 {

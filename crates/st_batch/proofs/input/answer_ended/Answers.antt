@@ -15,4 +15,4 @@ returns-in-Ok-clause-err g c =
     c.write_enough.ensures.err
 
 pub returns-in-Err-clause-err : goal.returns-in-Err-clause-err
-returns-in-Err-clause-err g c = halts-none _ _ _ _ _ (record { misses = c.in-Err.ensures.misses_later; faults = c.in-Err.ensures.faults_later })
+returns-in-Err-clause-err g c = halts-none _ _ _ _ _ (record { misses = c.in-Err.ensures.misses_later; faults = c.in-Err.ensures.faults_later; taken = c.in-Err.ensures.taken_later })

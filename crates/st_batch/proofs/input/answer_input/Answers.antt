@@ -8,12 +8,14 @@ loop-read-init g c = record {
   few = omega arith;
   room = refl;
   taken = omega arith;
+  most = omega arith;
   input = omega arith;
   output = omega arith;
   closed = λ e. e;
   map = refl;
   misses = omega arith;
   faults = omega arith;
+  bytes = omega arith;
 }
 
 pub returns-in-Err-clause-told : goal.returns-in-Err-clause-told
@@ -39,10 +41,12 @@ loop-read-preserved g c = record {
   few = omega (arith, c.if-count-read.false, c.loop-read.invariant.few);
   room = omega (arith, c.read.auto.buf, c.loop-read.invariant.room);
   taken = omega (arith, c.in-Ok.ensures.count, c.loop-read.invariant.taken);
+  most = omega (arith, c.in-Ok.ensures.count, c.loop-read.invariant.most);
   input = omega (arith, c.in-Ok.ensures.cause.later);
   output = omega (arith, c.in_default.ensures.later);
   closed = λ e. c.in_default.ensures.closed (c.loop-read.invariant.closed e);
   map = search rules;
   misses = omega arith;
   faults = omega arith;
+  bytes = omega arith;
 }

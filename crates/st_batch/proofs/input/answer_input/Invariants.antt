@@ -1,4 +1,5 @@
 use Rattle.std.proofs.Common.{◌≡◌, ◌≤◌, ◌+◌, ◌-◌, ◌^◌, min, false, length}
+use Rattle.st_batch.specs.Causes.{RoseBy}
 use Rattle.st_batch.specs.Progress.{ReadsInput}
 use Rattle.st_batch.proofs.input.answer_input.Given as goal
 
@@ -6,12 +7,12 @@ abbrev pub invariant-loop-read : goal.invariant-loop-read
 invariant-loop-read g l = record {
   come : ReadsInput (g.F.Files.map l.fn.files) (g.I.Source.left l.fn.input) (g.I.Source.left l.input)
       (record {
-        counts = record { misses = g.F.Files.misses l.fn.files; faults = g.F.Files.faults l.fn.files };
+        counts = record { misses = g.F.Files.misses l.fn.files; faults = g.F.Files.faults l.fn.files; taken = g.F.Files.taken l.fn.files };
         taken = g.O.Sink.taken l.fn.out;
         answering = l.fn.answering;
       })
       (record {
-        counts = record { misses = g.F.Files.misses l.files; faults = g.F.Files.faults l.files };
+        counts = record { misses = g.F.Files.misses l.files; faults = g.F.Files.faults l.files; taken = g.F.Files.taken l.files };
         taken = g.O.Sink.taken l.out;
         answering = l.answering;
       })
@@ -19,12 +20,14 @@ invariant-loop-read g l = record {
   few : l.read ≤ 67108864;
   room : length l.piece ≡ 65536;
   taken : min (g.I.Source.taken l.fn.input + l.read) (2 ^ 64 - 1) ≤ g.I.Source.taken l.input;
+  most : g.I.Source.taken l.input ≤ g.I.Source.taken l.fn.input + l.read;
   input : g.I.Source.faults l.fn.input ≤ g.I.Source.faults l.input;
   output : g.O.Sink.faults l.fn.out ≤ g.O.Sink.faults l.out;
   closed : g.F.Files.opened l.fn.files ≡ false → g.F.Files.opened l.files ≡ false;
   map : g.F.Files.map l.files ≡ g.F.Files.map l.fn.files;
   misses : g.F.Files.misses l.fn.files ≤ g.F.Files.misses l.files;
   faults : g.F.Files.faults l.fn.files ≤ g.F.Files.faults l.files;
+  bytes : RoseBy 0 (g.F.Files.taken l.fn.files) (g.F.Files.taken l.files);
 }
 
 abbrev pub decreases-loop-read : goal.decreases-loop-read

@@ -12,6 +12,7 @@ loop-end-init g c = record {
   map = search rules;
   misses = omega arith;
   faults = omega arith;
+  bytes = omega arith;
 }
 
 pub loop-end-preserved : goal.loop-end-preserved
@@ -22,6 +23,7 @@ loop-end-preserved g c = record {
   map = search rules;
   misses = omega arith;
   faults = omega arith;
+  bytes = omega arith;
 }
 
 pub returns-in-Err-clause-err : goal.returns-in-Err-clause-err

@@ -1,5 +1,5 @@
 use Rattle.std.proofs.Common.{Err, map, string_bytes, ap, arith}
-use Rattle.st_batch.specs.Causes.{Counts}
+use Rattle.st_batch.specs.Causes.{FileCounts}
 use Rattle.st_batch.proofs.RunLaws.{outside, words-outcome, nothing-of-words, no-input, reads-all, job-fits}
 use Rattle.st_batch.proofs.WordsLaws.{one-job, told-job}
 use Rattle.st_batch.proofs.top.run.Goals as goal
@@ -20,6 +20,7 @@ returns-in-Ok g c =
       whole = λ h.
           let all = reads-all words job status (λ other b. one-job words other job b asked) h in
           c.run_job.ensures.whole all.0 all.1;
+      short = c.run_job.ensures.short;
       left = λ h. c.run_job.ensures.left (no-input words job status asked h);
       taken = λ h. c.run_job.ensures.taken (no-input words job status asked h);
       faults = λ h. c.run_job.ensures.faults (no-input words job status asked h);
@@ -29,13 +30,13 @@ returns-in-Ok g c =
 
 pub returns-in-Err-NotBuilt-clause-told : goal.returns-in-Err-NotBuilt-clause-told
 returns-in-Err-NotBuilt-clause-told g c =
-    let still : Counts = record { misses = g.F.Files.misses c.args.files.now; faults = g.F.Files.faults c.args.files.now } in
+    let still : FileCounts = record { misses = g.F.Files.misses c.args.files.now; faults = g.F.Files.faults c.args.files.now; taken = g.F.Files.taken c.args.files.now } in
     words-outcome (outside (g.F.Files.map c.args.files.now) (g.I.Source.left c.args.input.now) still still)
     (map string_bytes c.args.words.now) c.deliver.result (g.O.Sink.taken c.args.out.now) (g.O.Sink.taken c.deliver.new.out)
     (c.in-Err-NotBuilt.ensures.not_built (ap Err c.in-Err-NotBuilt.field-0-is)) c.deliver.ensures.delivers
 
 pub returns-in-Err-OutOfMemory-clause-told : goal.returns-in-Err-OutOfMemory-clause-told
 returns-in-Err-OutOfMemory-clause-told g c =
-    let still : Counts = record { misses = g.F.Files.misses c.args.files.now; faults = g.F.Files.faults c.args.files.now } in
+    let still : FileCounts = record { misses = g.F.Files.misses c.args.files.now; faults = g.F.Files.faults c.args.files.now; taken = g.F.Files.taken c.args.files.now } in
     nothing-of-words (outside (g.F.Files.map c.args.files.now) (g.I.Source.left c.args.input.now) still still)
-    (map string_bytes c.args.words.now) (g.O.Sink.taken c.args.out.now) (told-job (map string_bytes c.args.words.now)) (omega arith) (omega arith)
+    (map string_bytes c.args.words.now) (g.O.Sink.taken c.args.out.now) (told-job (map string_bytes c.args.words.now)) (record { misses = omega arith; faults = omega arith; taken = omega arith })
