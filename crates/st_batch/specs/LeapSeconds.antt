@@ -2,8 +2,8 @@
 use Rattle.std.specs.Prelude.{◌≡◌, ◌+◌, ◌≤◌, ℤ, pos, ◌+ℤ◌, ◌-ℤ◌, ◌*ℤ◌, ◌≤ℤ◌, ◌<ℤ◌, int_le, List, [], ◌∷◌, length, codes, reverse, find, Option, Some, None}
 use Rattle.st_dates.specs.AtDate.{moment}
 use Rattle.st_dates.specs.Label.{formal}
+use Rattle.st_dates.specs.Range.{range_start, range_end}
 use Rattle.st_dates.specs.declared.label.Label.{Label}
-use Rattle.st_dates.specs.declared.label.TheConstants.{FIRST, LAST}
 use Rattle.st_decimal.specs.Scaling.{IsUnits18, IsWhole}
 use Rattle.st_kernel_text.specs.declared.value.Value.{Value}
 use Rattle.st_kernel_text.specs.declared.value.Value.TheVariants.{Number}
@@ -25,8 +25,8 @@ IsMidnight z = (day : ℤ) × (z ≡ moment day 0)
 pub record IsInRange (p : LeapPair) : Type 0 where
   pub count : p.count ≤ 1000
   pub midnight : IsMidnight p.from
-  pub from : FIRST ≤ℤ p.from
-  pub to : p.from ≤ℤ LAST
+  pub from : range_start ≤ℤ p.from
+  pub to : p.from ≤ℤ range_end
 
 abbrev pub AreInRange : List LeapPair → Type 0
 AreInRange [] = Unit {0}

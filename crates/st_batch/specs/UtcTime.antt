@@ -4,8 +4,8 @@ use Rattle.std.specs.Prelude.{◌≡◌, ℕ, ◌+◌, ◌-◌, ◌*◌, ◌^◌
 use Rattle.st_text.specs.Bytes.{are_digits, number_of}
 use Rattle.st_dates.specs.Calendar.{IsCalendarDay, day_number}
 use Rattle.st_dates.specs.Label.{formal}
+use Rattle.st_dates.specs.Range.{range_start, range_end}
 use Rattle.st_dates.specs.declared.label.Label.{Label}
-use Rattle.st_dates.specs.declared.label.TheConstants.{FIRST, LAST}
 
 -- the runs of digits that stand in the text
 pub record TimeParts : Type 0 where
@@ -66,8 +66,8 @@ pub record Names (p : TimeParts) (label : Label) : Type 0 where
   pub second : number_of p.second ≤ 59
   pub day : label.day ≡ day_number (number_of p.year) (number_of p.month) (number_of p.day)
   pub of_day : label.of_day ≡ pos (units_of_day p)
-  pub from : FIRST ≤ℤ formal label
-  pub to : formal label ≤ℤ LAST
+  pub from : range_start ≤ℤ formal label
+  pub to : formal label ≤ℤ range_end
 
 -- the text is a UTC time and stands for the label
 abbrev pub IsUtcTime : List ℕ → Label → Type 0

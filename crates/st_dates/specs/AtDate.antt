@@ -4,10 +4,10 @@
 use Rattle.std.specs.Prelude.{◌≡◌, ℕ, List, ◌++◌, ℤ, pos, ◌≤ℤ◌, Result, Ok, Err}
 use Rattle.st_dates.specs.DayText.{DayText, day_spelling, AreDayParts, IsDayOf}
 use Rattle.st_dates.specs.Label.{formal}
+use Rattle.st_dates.specs.Range.{range_start, range_end}
 use Rattle.st_dates.specs.TimeText.{TimeText, time_spelling, AreTimeParts, time_units}
 use Rattle.st_dates.specs.declared.fault.DateFault.{DateFault}
 use Rattle.st_dates.specs.declared.fault.DateFault.TheVariants.{Form, NoSuchDay, OutOfRange}
-use Rattle.st_dates.specs.declared.label.TheConstants.{FIRST, LAST}
 
 -- a date as it is written
 pub record Written : Type 0 where
@@ -26,7 +26,7 @@ moment n units = formal (record { day = n; of_day = pos units })
 
 -- from 1900-01-01 00:00 to 2100-01-01 00:00, both included
 abbrev pub IsInRange : ℤ → Type 0
-IsInRange z = (FIRST ≤ℤ z) × (z ≤ℤ LAST)
+IsInRange z = (range_start ≤ℤ z) × (z ≤ℤ range_end)
 
 -- the calendar has the written day, and z is the moment of that day
 abbrev pub IsMomentOf : Written → ℤ → Type 0

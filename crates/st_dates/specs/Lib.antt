@@ -8,6 +8,7 @@ pub mod DayTextMachine
 pub mod Label
 pub mod Names
 pub mod NamesMachine
+pub mod Range
 pub mod ScanMachine
 pub mod TimeText
 pub mod TimeTextMachine
