@@ -1,6 +1,8 @@
 pub mod CommandLaws
 pub mod CutLaws
 pub mod Decimals
+pub mod Examples
+pub mod GoesOn
 pub mod InputLaws
 pub mod KernelLaws
 pub mod LineLaws

@@ -1,5 +1,5 @@
 -- What the definitions of a run say by themselves, as laws.
-use Rattle.std.specs.Prelude.{◌≡◌, ◌≢◌, ℕ, ◌<◌, ◌^◌, ◌-◌, Option, Some, List, ⊤}
+use Rattle.std.specs.Prelude.{◌≡◌, ◌≢◌, ℕ, ◌<◌, ◌^◌, ◌-◌, Option, Some, List, ◌++◌, count_by, ⊤}
 use Rattle.st_outside.specs.Entries.{Entries}
 use Rattle.st_pool.specs.declared.kernel.Kernel.{Kernel}
 use Rattle.st_batch.specs.declared.answer.Answer.{Answer}
@@ -7,8 +7,9 @@ use Rattle.st_batch.specs.declared.answer.Answer.TheVariants.{Refused}
 use Rattle.st_batch.specs.declared.fault.LineFault.TheVariants.{FileFault}
 use Rattle.st_batch.specs.declared.status.Status.{Status}
 use Rattle.st_batch.specs.declared.status.Status.TheVariants.{Done, SomeRefused, BadWords, BadSetup}
+use Rattle.st_batch.specs.Causes.{is_file_fault}
 use Rattle.st_batch.specs.Outcome.{Outside, Outcome}
-use Rattle.st_batch.specs.Session.{MayAnswer}
+use Rattle.st_batch.specs.Session.{MayAnswer, RunsTo}
 
 -- the run was not cut off
 abbrev pub IsComplete : Status → Type 0
@@ -37,3 +38,10 @@ abbrev pub EveryLineHasAnswer : Type 0
 EveryLineHasAnswer =
     (files : Option Entries) (loaded : List Kernel) (line : List ℕ)
     → (answer : Answer) × ((after : List Kernel) × MayAnswer files loaded line answer after × (answer ≢ Refused FileFault))
+
+-- Answers to some first lines go on to answers to all lines, and those to the later lines name no fault of the files.
+abbrev pub EveryBeginningGoesOn : Type 0
+EveryBeginningGoesOn =
+    (files : Option Entries) (loaded after : List Kernel) (lines more : List (List ℕ)) (answers : List Answer)
+    → RunsTo files loaded lines answers after
+    → (later : List Answer) × ((last : List Kernel) × RunsTo files loaded (lines ++ more) (answers ++ later) last × (count_by is_file_fault later ≡ 0))

@@ -120,8 +120,13 @@ fn answer_last<F: Files, O: Sink>(
 ) -> Status
     requires { HasNoFeed begun.now }
     ensures finished { Finishes (F.map files.old)
-        (record { counts = record { misses = F.misses files.old; faults = F.faults files.old; taken = F.taken files.old }; taken = O.taken out.old; answering = answering.old })
-        (record { misses = F.misses files.new; faults = F.faults files.new; taken = F.taken files.new }) (O.taken out.new) (lines.lines_of begun.now) result }
+        (record {
+          counts = record { misses = F.misses files.old; faults = F.faults files.old; taken = F.taken files.old };
+          taken = O.taken out.old;
+          answering = answering.old;
+        })
+        (record { misses = F.misses files.new; faults = F.faults files.new; taken = F.taken files.new })
+        (O.taken out.new) (lines.lines_of begun.now) result }
     ensures write_fault { result ≡ Status.WriteFault → Rose (O.faults out.old) (O.faults out.new) }
     ensures closed { F.opened files.old ≡ false → F.opened files.new ≡ false }
     ensures map { F.map files.new ≡ F.map files.old }
@@ -144,8 +149,13 @@ fn answer_one<F: Files, O: Sink>(
     out: &mut O,
 ) -> Status
     ensures finished { Finishes (F.map files.old)
-        (record { counts = record { misses = F.misses files.old; faults = F.faults files.old; taken = F.taken files.old }; taken = O.taken out.old; answering = answering.old })
-        (record { misses = F.misses files.new; faults = F.faults files.new; taken = F.taken files.new }) (O.taken out.new) (line.now ∷ []) result }
+        (record {
+          counts = record { misses = F.misses files.old; faults = F.faults files.old; taken = F.taken files.old };
+          taken = O.taken out.old;
+          answering = answering.old;
+        })
+        (record { misses = F.misses files.new; faults = F.faults files.new; taken = F.taken files.new })
+        (O.taken out.new) (line.now ∷ []) result }
     ensures write_fault { result ≡ Status.WriteFault → Rose (O.faults out.old) (O.faults out.new) }
     ensures closed { F.opened files.old ≡ false → F.opened files.new ≡ false }
     ensures map { F.map files.new ≡ F.map files.old }
@@ -191,13 +201,26 @@ fn answer_piece<F: Files, O: Sink>(
 ) -> Result<(), SinkFault>
     requires { HasNoFeed begun.old.items }
     ensures ok { OnOk result (Reads (F.map files.old)
-        (record { counts = record { misses = F.misses files.old; faults = F.faults files.old; taken = F.taken files.old }; taken = O.taken out.old; answering = answering.old })
-        (record { counts = record { misses = F.misses files.new; faults = F.faults files.new; taken = F.taken files.new }; taken = O.taken out.new; answering = answering.new })
+        (record {
+          counts = record { misses = F.misses files.old; faults = F.faults files.old; taken = F.taken files.old };
+          taken = O.taken out.old;
+          answering = answering.old;
+        })
+        (record {
+          counts = record { misses = F.misses files.new; faults = F.faults files.new; taken = F.taken files.new };
+          taken = O.taken out.new;
+          answering = answering.new;
+        })
         begun.old.items piece.now begun.new.items) }
     ensures gathered { OnOk result (answering.new.gathered.items ≡ []) }
     ensures err { OnErr result (Halts (F.map files.old)
-        (record { counts = record { misses = F.misses files.old; faults = F.faults files.old; taken = F.taken files.old }; taken = O.taken out.old; answering = answering.old })
-        (record { misses = F.misses files.new; faults = F.faults files.new; taken = F.taken files.new }) (O.taken out.new) begun.old.items piece.now) }
+        (record {
+          counts = record { misses = F.misses files.old; faults = F.faults files.old; taken = F.taken files.old };
+          taken = O.taken out.old;
+          answering = answering.old;
+        })
+        (record { misses = F.misses files.new; faults = F.faults files.new; taken = F.taken files.new })
+        (O.taken out.new) begun.old.items piece.now) }
     ensures later { O.faults out.old ≤ O.faults out.new }
     ensures cause { IsErrOf result SinkFault.Failed → Rose (O.faults out.old) (O.faults out.new) }
     ensures closed { F.opened files.old ≡ false → F.opened files.new ≡ false }
@@ -248,12 +271,25 @@ fn answer_ended<F: Files, O: Sink>(
     requires begun { HasNoFeed begun.old.items }
     requires end { HasNoFeed end.now }
     ensures ok { OnOk result (Reads (F.map files.old)
-        (record { counts = record { misses = F.misses files.old; faults = F.faults files.old; taken = F.taken files.old }; taken = O.taken out.old; answering = answering.old })
-        (record { counts = record { misses = F.misses files.new; faults = F.faults files.new; taken = F.taken files.new }; taken = O.taken out.new; answering = answering.new })
+        (record {
+          counts = record { misses = F.misses files.old; faults = F.faults files.old; taken = F.taken files.old };
+          taken = O.taken out.old;
+          answering = answering.old;
+        })
+        (record {
+          counts = record { misses = F.misses files.new; faults = F.faults files.new; taken = F.taken files.new };
+          taken = O.taken out.new;
+          answering = answering.new;
+        })
         begun.old.items (end.now ++ (10 ∷ [])) begun.new.items) }
     ensures err { OnErr result (Halts (F.map files.old)
-        (record { counts = record { misses = F.misses files.old; faults = F.faults files.old; taken = F.taken files.old }; taken = O.taken out.old; answering = answering.old })
-        (record { misses = F.misses files.new; faults = F.faults files.new; taken = F.taken files.new }) (O.taken out.new) begun.old.items (end.now ++ (10 ∷ []))) }
+        (record {
+          counts = record { misses = F.misses files.old; faults = F.faults files.old; taken = F.taken files.old };
+          taken = O.taken out.old;
+          answering = answering.old;
+        })
+        (record { misses = F.misses files.new; faults = F.faults files.new; taken = F.taken files.new })
+        (O.taken out.new) begun.old.items (end.now ++ (10 ∷ []))) }
     ensures later { O.faults out.old ≤ O.faults out.new }
     ensures cause { IsErrOf result SinkFault.Failed → Rose (O.faults out.old) (O.faults out.new) }
     ensures closed { F.opened files.old ≡ false → F.opened files.new ≡ false }
@@ -276,7 +312,9 @@ fn gather_ended<F: Files>(
     end: &[u8],
     files: &mut F,
 ) -> Result<(), OutOfMemory>
-    ensures ok { OnOk result (AnswersOne (F.map files.old) (record { misses = F.misses files.old; faults = F.faults files.old; taken = F.taken files.old }) (record { misses = F.misses files.new; faults = F.faults files.new; taken = F.taken files.new })
+    ensures ok { OnOk result (AnswersOne (F.map files.old)
+        (record { misses = F.misses files.old; faults = F.faults files.old; taken = F.taken files.old })
+        (record { misses = F.misses files.new; faults = F.faults files.new; taken = F.taken files.new })
         answering.old answering.new (lines.without_cr (begun.old.items ++ end.now))) }
     ensures begun { OnOk result (begun.new.items ≡ []) }
     ensures closed { F.opened files.old ≡ false → F.opened files.new ≡ false }

@@ -1,6 +1,6 @@
 //! Laws of the definitions by which `run` is told. Each function does nothing; its contract is the law.
 
-ghost use Rattle.st_batch.specs.Laws.{OneOutput, EveryLineHasAnswer};
+ghost use Rattle.st_batch.specs.Laws.{OneOutput, EveryLineHasAnswer, EveryBeginningGoesOn};
 
 /// Where the files and the input tell their bytes and the files had no fault there is one whole output, so that `run`,
 /// where it isn't cut off, is then a function of the words, the files and the input.
@@ -8,7 +8,13 @@ pub fn one_output()
     ensures { OneOutput }
 {}
 
-/// Every line has an answer, so that what was written of a run that was cut off begins answers to all lines.
+/// Every line has an answer.
 pub fn every_line_has_an_answer()
     ensures { EveryLineHasAnswer }
+{}
+
+/// Answers to some first lines go on to answers to all lines, so that what was written of a run that was cut off begins
+/// such answers.
+pub fn every_beginning_goes_on()
+    ensures { EveryBeginningGoesOn }
 {}

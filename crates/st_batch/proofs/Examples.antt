@@ -1,0 +1,66 @@
+-- The definitions of the session on worked values.
+use Rattle.std.proofs.Common.{◌≡◌, ℕ, zero, suc, ◌<◌, inl, inr, Some, List, [], ◌∷◌, ◌++◌, codes, refl, lit<, arith}
+use Rattle.std.proofs.lemmas.Str.{IsUtf8-from_ascii}
+use Rattle.std.specs.Str.{IsAscii}
+use Rattle.st_pool.specs.declared.kernel.Kernel.{Kernel}
+use Rattle.st_batch.specs.declared.answer.Answer.TheVariants.{Text, Refused}
+use Rattle.st_batch.specs.declared.fault.LineFault.TheVariants.{NoFile, NotLoaded}
+use Rattle.st_batch.specs.declared.status.Status.TheVariants.{SomeRefused}
+use Rattle.st_batch.specs.Commands.{IsLoad, IsUnload}
+use Rattle.st_batch.specs.Outcome.{line_of, status_of}
+use Rattle.st_batch.specs.Session.{RunsTo}
+
+abbrev kernel : List ℕ → Kernel
+kernel name = record { name = name; assignments = [] }
+
+ascii-none : IsAscii []
+ascii-none i = lit< tt
+
+ascii : (b : ℕ) (bs : List ℕ) → b < 128 → IsAscii bs → IsAscii (b ∷ bs)
+ascii b bs h k zero = h
+ascii b bs h k (suc i) = k i
+
+-- the name of `$load` stands behind all blanks
+load_names : IsLoad (codes "$load  a b") (codes "a b")
+load_names = record {
+  blanks = 32 ∷ 32 ∷ [];
+  spelled = refl;
+  some = lit< tt;
+  blank = refl;
+  behind = refl;
+  is_name = record { some = lit< tt; short = omega arith; utf8 = IsUtf8-from_ascii (codes "a b") (ascii 97 (32 ∷ 98 ∷ []) (lit< tt) (ascii 32 (98 ∷ []) (lit< tt) (ascii 98 [] (lit< tt) ascii-none))) };
+}
+
+unload_names : IsUnload (codes "$unload a") (codes "a")
+unload_names = record {
+  blanks = 32 ∷ [];
+  spelled = refl;
+  some = lit< tt;
+  blank = refl;
+  behind = refl;
+  is_name = record { some = lit< tt; short = omega arith; utf8 = IsUtf8-from_ascii (codes "a") (ascii 97 [] (lit< tt) ascii-none) };
+}
+
+-- a session without files: a kernel that was loaded twice is unloaded once, none is left after `$clear`, and none can be loaded
+pub session : RunsTo (Some []) (kernel (codes "a") ∷ kernel (codes "b") ∷ kernel (codes "a") ∷ []) (codes "$unload a" ∷ codes " $clear\t" ∷ codes "$unload a" ∷ codes "$load  a b" ∷ [])
+    (Text (codes "unloaded") ∷ Text (codes "cleared") ∷ Refused NotLoaded ∷ Refused NoFile ∷ []) []
+session = (
+  kernel (codes "a") ∷ kernel (codes "b") ∷ [],
+  (codes "$unload a", record { short = omega arith; trimmed = refl }, inl (inr (inl (codes "a", unload_names, refl, refl, refl)))),
+  (
+    [],
+    (codes "$clear", record { short = omega arith; trimmed = refl }, inl (inr (inr (refl, refl, refl)))),
+    (
+      [],
+      ((codes "$unload a", record { short = omega arith; trimmed = refl }, (codes "a", unload_names, refl)), refl),
+      ([], ((codes "$load  a b", record { short = omega arith; trimmed = refl }, (codes "a b", load_names, refl)), refl), refl),
+    ),
+  ),
+)
+
+-- and what is written of it
+pub written : line_of (Text (codes "cleared")) ++ line_of (Refused NoFile) ≡ codes "cleared\nrefused NO_FILE\n"
+written = refl
+
+pub ended : status_of (Text (codes "cleared") ∷ Refused NoFile ∷ []) ≡ SomeRefused
+ended = refl
