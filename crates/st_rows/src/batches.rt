@@ -1,7 +1,7 @@
 //! Batches from UTC to TAI with the setup `naif.tls`: the lines of the input, and the whole output.
 
 use crate::session::{batch, folder};
-use st_batch::{Status, run};
+use st_batch::{LineFault, Status, run};
 use st_outside::{MemFiles, MemSink, MemSource, SafeFiles, SafeSink, SafeSource};
 use std::test::Fail;
 
@@ -99,24 +99,25 @@ fn repeated(rt: &HostRuntime, text: &str, times: usize) -> Result<Vec<u8>, Fail>
     Ok(lines)
 }
 
+/// A line's first byte, how many bytes it has, and the output.
+const LONG_LINES: [(&str, usize, &str); 6] = [
+    ("x", 1000, "refused BAD_TIME\n"),
+    ("$", 1000, "refused BAD_COMMAND\n"),
+    (" ", 1000, "refused BAD_TIME\n"),
+    ("x", 1001, "refused LINE_TOO_LONG\n"),
+    ("$", 1001, "refused LINE_TOO_LONG\n"),
+    (" ", 1001, "refused LINE_TOO_LONG\n"),
+];
+
 #[test]
 fn lines_longer_than_a_line_may_be(rt: HostRuntime) -> Result<(), Fail> {
-    for (count, refusal) in [(1000, "BAD_TIME"), (1001, "LINE_TOO_LONG")] {
-        for first in ["x", "$", " "] {
-            let mut line = repeated(&rt, first, 1)?;
-            line.extend_from_slice(repeated(&rt, "x", count - 1)?.as_slice())?;
-            line.extend_from_slice(b"\r\n")?;
-            let (status, output) = answered(&rt, line)?;
-            let command = first == "$" && count == 1000;
-            let wanted = if command { "BAD_COMMAND" } else { refusal };
-            assert_eq!(rt; status, Status::SomeRefused, "{first} {count}");
-            assert!(rt; output.as_slice().ends_with(b"\n"), "{first} {count}");
-            assert!(rt;
-                output.as_slice().starts_with(b"refused "),
-                "{first} {count}"
-            );
-            assert_eq!(rt; output.len(), wanted.len() + 9, "{first} {count}");
-        }
+    for (first, count, wanted) in LONG_LINES {
+        let mut line = repeated(&rt, first, 1)?;
+        let rest = repeated(&rt, "x", count.saturating_sub(1))?;
+        line.extend_from_slice(rest.as_slice())?;
+        line.extend_from_slice(b"\r\n")?;
+        let (_, output) = answered(&rt, line)?;
+        assert_eq!(rt; output.as_slice(), wanted.as_bytes(), "{first} {count}");
     }
     Ok(())
 }
@@ -159,55 +160,66 @@ fn lines_cut_by_the_reads(rt: HostRuntime) -> Result<(), Fail> {
     Ok(())
 }
 
-/// How a batch ends over outsides whose listed calls fail: the call of the files, of the input and of the output, the
-/// status, and what was written. The setup makes the first three calls of the files, and `$load` the next ones.
-const FAULTS: [(u32, u32, u32, Status, &str); 7] = [
-    (0, 0, 0, Status::Done, "loaded\n549547236.000000\n"),
-    (
-        4,
-        0,
-        0,
-        Status::SomeRefused,
-        "refused FILE_FAULT\n549547237.000000\n",
-    ),
-    (
-        5,
-        0,
-        0,
-        Status::SomeRefused,
-        "refused FILE_FAULT\n549547237.000000\n",
-    ),
-    (
-        6,
-        0,
-        0,
-        Status::SomeRefused,
-        "refused FILE_FAULT\n549547237.000000\n",
-    ),
-    (0, 1, 0, Status::ReadFault, ""),
-    (0, 2, 0, Status::ReadFault, "loaded\n"),
-    (0, 0, 1, Status::WriteFault, ""),
+/// A kernel that is loaded for the second line, the first being ended and the last not.
+const TWO_LINES: &[u8] = b"$load short.tls\n2017-06-01T00:00:00";
+
+/// The status and the output of the two lines, where one call of the files fails.
+fn with_failing_file(rt: &HostRuntime, call: u32) -> Result<(Status, Vec<u8>), Fail> {
+    let alloc = rt.alloc();
+    let words = batch(alloc)?;
+    let mut kernels = MemFiles::new(folder(alloc)?, Vec::from_slice(alloc, &[call])?);
+    let mut input = SafeSource::new(Vec::from_slice(alloc, TWO_LINES)?);
+    let mut out = SafeSink::new(alloc);
+    let status = run(alloc, words.as_slice(), &mut kernels, &mut input, &mut out);
+    Ok((status, Vec::from_slice(alloc, out.bytes())?))
+}
+
+#[test]
+fn faulty_loads(rt: HostRuntime) -> Result<(), Fail> {
+    // The first calls are those of the setup. The first one that `$load` makes opens its file, and the next one reads.
+    let mut opening = 0;
+    for call in 1..100 {
+        let (status, _) = with_failing_file(&rt, call)?;
+        if status == Status::SomeRefused {
+            opening = call;
+            break;
+        }
+        assert_eq!(rt; status, Status::BadSetup(LineFault::FileFault), "{call}");
+    }
+    for failing in [opening, opening.saturating_add(1)] {
+        let (status, output) = with_failing_file(&rt, failing)?;
+        assert_eq!(rt; status, Status::SomeRefused, "{failing}");
+        assert_eq!(rt;
+            output.as_slice(),
+            b"refused FILE_FAULT\n549547237.000000\n".as_slice(),
+            "{failing}"
+        );
+    }
+    Ok(())
+}
+
+/// How the two lines end where a call of the input or of the output fails: the call of each, the status, and what was
+/// written.
+const FAULTS: [(u32, u32, Status, &str); 5] = [
+    (0, 0, Status::Done, "loaded\n549547236.000000\n"),
+    (1, 0, Status::ReadFault, ""),
+    (2, 0, Status::ReadFault, "loaded\n"),
+    (0, 1, Status::WriteFault, ""),
+    (0, 2, Status::WriteFault, "loaded\n"),
 ];
 
 #[test]
 fn faults_of_the_outside(rt: HostRuntime) -> Result<(), Fail> {
     let alloc = rt.alloc();
     let words = batch(alloc)?;
-    for (file_call, read_call, write_call, wanted, output) in FAULTS {
-        let lines = b"$load short.tls\n2017-06-01T00:00:00";
-        let mut kernels = MemFiles::new(folder(alloc)?, Vec::from_slice(alloc, &[file_call])?);
-        let mut input = MemSource::new(
-            Vec::from_slice(alloc, lines)?,
-            Vec::from_slice(alloc, &[read_call])?,
-        );
+    for (read_call, write_call, wanted, output) in FAULTS {
+        let mut kernels = SafeFiles::new(folder(alloc)?);
+        let failing = Vec::from_slice(alloc, &[read_call])?;
+        let mut input = MemSource::new(Vec::from_slice(alloc, TWO_LINES)?, failing);
         let mut out = MemSink::new(alloc, Vec::from_slice(alloc, &[write_call])?);
         let status = run(alloc, words.as_slice(), &mut kernels, &mut input, &mut out);
-        assert_eq!(rt; status, wanted, "{file_call} {read_call} {write_call}");
-        assert_eq!(rt;
-            out.bytes(),
-            output.as_bytes(),
-            "{file_call} {read_call} {write_call}"
-        );
+        assert_eq!(rt; status, wanted, "{read_call} {write_call}");
+        assert_eq!(rt; out.bytes(), output.as_bytes(), "{read_call} {write_call}");
     }
     Ok(())
 }

@@ -14,3 +14,5 @@ mod files;
 mod refusals;
 #[cfg(test)]
 mod session;
+#[cfg(test)]
+mod sessions;

@@ -1,0 +1,113 @@
+//! A session by its own calls: its kernels, its answers, and the texts of refusals.
+
+use crate::session::folder;
+use st_batch::{Answer, Job, LineFault, Session, Work, put_refusal};
+use st_decimal::{Dec, KText};
+use st_kernel_text::{TextCause, Value};
+use st_outside::SafeFiles;
+use st_pool::Kind;
+use std::alloc::Global;
+use std::test::Fail;
+
+/// The job of a batch with this setup file.
+fn job(alloc: Global, setup: &[u8]) -> Result<Job, Fail> {
+    Ok(Job {
+        setup: KText::from_slice(alloc, setup)?,
+        work: Work::Batch,
+    })
+}
+
+#[test]
+fn opens_a_setup(rt: HostRuntime) -> Result<(), Fail> {
+    let alloc = rt.alloc();
+    let mut kernels = SafeFiles::new(folder(alloc)?);
+    let Ok(session) = Session::open(alloc, job(alloc, b"values.ker")?, &mut kernels) else {
+        assert!(rt; false);
+        return Ok(());
+    };
+    let pool = session.pool();
+    assert_eq!(rt; pool.len(), 1);
+    assert_eq!(rt; pool.kind(b"X"), Kind::Texts);
+    assert_eq!(rt; pool.count(b"Z"), 1);
+    match pool.value(b"Z", 0) {
+        Some(Value::Number(number)) => assert_eq!(rt;
+            *number,
+            Dec {
+                digits: -883656,
+                tens: 3
+            }
+        ),
+        _ => assert!(rt; false),
+    }
+    Ok(())
+}
+
+#[test]
+fn refuses_a_setup(rt: HostRuntime) -> Result<(), Fail> {
+    let alloc = rt.alloc();
+    let mut kernels = SafeFiles::new(folder(alloc)?);
+    let refused = [
+        (b"absent".as_slice(), LineFault::NoFile),
+        (
+            b"cut.ker",
+            LineFault::KernelText {
+                line: 2,
+                cause: TextCause::Unclosed,
+            },
+        ),
+    ];
+    for (setup, wanted) in refused {
+        match Session::open(alloc, job(alloc, setup)?, &mut kernels) {
+            Ok(_) => assert!(rt; false),
+            Err(fault) => assert_eq!(rt; fault, wanted),
+        }
+    }
+    Ok(())
+}
+
+#[test]
+fn answers_lines(rt: HostRuntime) -> Result<(), Fail> {
+    let alloc = rt.alloc();
+    let mut kernels = SafeFiles::new(folder(alloc)?);
+    let Ok(mut session) = Session::open(alloc, job(alloc, b"naif.tls")?, &mut kernels) else {
+        assert!(rt; false);
+        return Ok(());
+    };
+    let lines: [(&[u8], &[u8]); 4] = [
+        (b"2017-06-01T00:00:00", b"549547237.000000"),
+        (b"$load short.tls", b"loaded"),
+        (b"2017-06-01T00:00:00", b"549547236.000000"),
+        (b"$unload short.tls", b"unloaded"),
+    ];
+    for (line, wanted) in lines {
+        match session.answer_line(line, &mut kernels)? {
+            Answer::Text(text) => assert_eq!(rt; text.as_slice(), wanted),
+            Answer::Refused(_) => assert!(rt; false),
+        }
+    }
+    assert_eq!(rt; session.pool().len(), 1);
+    match session.command_line(b"$clear", &mut kernels)? {
+        Answer::Text(text) => assert_eq!(rt; text.as_slice(), b"cleared".as_slice()),
+        Answer::Refused(_) => assert!(rt; false),
+    }
+    match session.answer_line(b"2017-06-01T00:00:00", &mut kernels)? {
+        Answer::Text(_) => assert!(rt; false),
+        Answer::Refused(fault) => assert_eq!(rt; fault, LineFault::NotBuilt),
+    }
+    Ok(())
+}
+
+#[test]
+fn puts_refusals(rt: HostRuntime) -> Result<(), Fail> {
+    let mut text = Vec::from_slice(rt.alloc(), b"refused ")?;
+    let fault = LineFault::KernelText {
+        line: 12,
+        cause: TextCause::MixedKinds,
+    };
+    put_refusal(&mut text, &fault)?;
+    assert_eq!(rt;
+        text.as_slice(),
+        b"refused KERNEL_TEXT 12 MIXED_KINDS".as_slice()
+    );
+    Ok(())
+}
