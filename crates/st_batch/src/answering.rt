@@ -1,6 +1,6 @@
 //! Answering lines and gathering their answers until they are written.
 
-ghost use Rattle.std.specs.Prelude.{◌≡◌, ◌≤◌, false, if◌then◌else◌, [], OnOk, OnErr, IsErrOf};
+ghost use Rattle.std.specs.Prelude.{◌≡◌, ◌≤◌, ◌<◌, length, false, if◌then◌else◌, [], OnOk, OnErr, IsErrOf};
 ghost use Rattle.std.specs.Io.KnownBytes.{Appends};
 ghost use Rattle.st_outside.specs.Causes.{Rose};
 ghost use Rattle.st_batch.specs.Causes.{FileCounts, RoseBy};
@@ -64,9 +64,10 @@ impl Answering {
         Ok(())
     }
 
-    /// Writes what is gathered, where that is enough.
+    /// Writes what is gathered once that is `ENOUGH` bytes.
     pub fn write_enough<O: Sink>(&mut self, out: &mut O) -> Result<(), SinkFault>
         ensures ok { OnOk result (Writes (O.taken out.old) (O.taken out.new) self.old self.new) }
+        ensures few { OnOk result (length self.new.gathered.items < 65536) }
         ensures err { OnErr result (TakesPrefix (O.taken out.old) (O.taken out.new) self.old.gathered.items) }
         ensures later { O.faults out.old ≤ O.faults out.new }
         ensures cause { IsErrOf result SinkFault.Failed → Rose (O.faults out.old) (O.faults out.new) }
