@@ -1,5 +1,5 @@
 -- How the answering of the lines of a text comes along.
-use Rattle.std.proofs.Common.{◌≡◌, ℕ, ◌<◌, Option, List, [], ◌∷◌, ◌++◌, length, refl, sym, ◌∙◌, ap, arith, subst, append_assoc}
+use Rattle.std.proofs.Common.{◌≡◌, ℕ, ◌<◌, Option, List, [], ◌∷◌, ◌++◌, length, refl, sym, ◌∙◌, ap, arith, subst, append_assoc, Result, Ok, Err, OnErr}
 use Rattle.st_outside.specs.Entries.{Entries}
 use Rattle.st_text.specs.Lines.{lines_of, without_cr}
 use Rattle.st_text.proofs.Splits.{lines_of-nil}
@@ -141,3 +141,8 @@ pub halts-behind : (files : Option Entries) (a b : Moment) (x y piece rest : Lis
 halts-behind files a b x y piece rest p =
     subst (λ (l : List ℕ). Halts files a b.counts b.taken x l) (sym p.whole)
     (halts-after files a b b.counts b.taken x y p.seen rest p.read (halts-none files b b.counts y rest (later-same b.counts)))
+
+-- what holds anyway holds where a call failed
+pub on-err : {A E P : Type 0} (r : Result A E) → P → OnErr r P
+on-err (Ok x) p = tt
+on-err (Err e) p = p

@@ -76,7 +76,3 @@ midnight_of label = formal (record { day = label.day; of_day = pos 0 })
 -- TAI of a UTC label, in units of 10^-18 s: its formal value and the count of its day
 abbrev pub tai_of : List LeapPair → Label → ℤ
 tai_of pairs label = formal label +ℤ (count_on pairs (midnight_of label) *ℤ pos 1_000_000_000_000_000_000)
-
--- the label's second is one of a day of 86,400 s
-abbrev pub IsOfDay : Label → Type 0
-IsOfDay label = (pos 0 ≤ℤ label.of_day) × (label.of_day <ℤ pos 86_400_000_000_000_000_000_000)

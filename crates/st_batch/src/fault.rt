@@ -3,7 +3,8 @@
 ghost use Rattle.std.specs.Prelude.{◌≡◌};
 
 use st_decimal::OutOfMemory;
-use st_kernel_text::TextCause;
+use st_kernel_text::{TextCause, TextFault};
+use st_pool::LoadFault;
 
 /// Why the words of the program are refused.
 #[derive(Clone, Copy, Debug, PartialEq, Eq)]
@@ -47,7 +48,7 @@ pub enum LineFault {
     NotLoaded,
     /// The loaded kernels give no table of leap seconds.
     NotBuilt,
-    /// The line is no UTC time.
+    /// The line is no UTC time from 1900-01-01 to 2100-01-01.
     BadTime,
     /// Memory was refused. No line is refused so: a run then ends with
     /// [`Status::OutOfMemory`](crate::Status::OutOfMemory).
@@ -61,5 +62,32 @@ impl From<OutOfMemory> for LineFault {
 
     fn from(_error: OutOfMemory) -> LineFault {
         LineFault::OutOfMemory
+    }
+}
+
+impl From<TextFault> for LineFault {
+    ghost use Rattle.st_batch.specs.LoadMachine.{refusal_of_text};
+
+    ghost from_gives = { λ fault e. e ≡ refusal_of_text fault };
+
+    fn from(fault: TextFault) -> LineFault {
+        match fault {
+            TextFault::At { line, cause } => LineFault::KernelText { line, cause },
+            TextFault::OutOfMemory => LineFault::OutOfMemory,
+        }
+    }
+}
+
+impl From<LoadFault> for LineFault {
+    ghost use Rattle.st_batch.specs.LoadMachine.{refusal_of_load};
+
+    ghost from_gives = { λ fault e. e ≡ refusal_of_load fault };
+
+    fn from(fault: LoadFault) -> LineFault {
+        match fault {
+            LoadFault::TooManyKernels => LineFault::TooManyKernels,
+            LoadFault::TooManyValues => LineFault::TooManyValues,
+            LoadFault::OutOfMemory => LineFault::OutOfMemory,
+        }
     }
 }

@@ -1,4 +1,4 @@
-//! The lines of the input.
+//! Answering the lines that are asked for.
 
 ghost use Rattle.std.specs.Prelude.{◌≡◌, ◌+◌, ◌≢◌, ◌≤◌, ◌==◌, false, [], ◌∷◌, ◌++◌, length, position, MatchOption, OnOk, OnErr, IsErrOf};
 ghost use Rattle.std.specs.Io.KnownBytes.{IsAtEnd};
@@ -181,7 +181,7 @@ fn finish<O: Sink>(answering: &mut Answering, out: &mut O) -> Status
 }
 
 /// How a run ends that a fault of the output or want of memory stopped.
-fn stopped(fault: SinkFault) -> Status
+pub fn stopped(fault: SinkFault) -> Status
     ensures { result ≡ stopped_by fault }
 {
     match fault {
@@ -231,15 +231,11 @@ fn answer_piece<F: Files, O: Sink>(
 {
     let mut rest = piece;
     while let Some((end, behind)) = ended_line(rest) {
-        match answer_ended(answering, begun, end, files, out) {
-            Ok(()) => rest = behind,
-            Err(fault) => return Err(fault),
-        }
+        answer_ended(answering, begun, end, files, out)?;
+        rest = behind;
     }
-    match begun.extend_from_slice(rest) {
-        Ok(()) => answering.write(out),
-        Err(_) => Err(SinkFault::OutOfMemory),
-    }
+    begun.extend_from_slice(rest)?;
+    answering.write(out)
 }
 
 /// The bytes before the first line feed, and those behind it.
@@ -298,10 +294,8 @@ fn answer_ended<F: Files, O: Sink>(
     ensures faults_later { F.faults files.old ≤ F.faults files.new }
     ensures taken_later { RoseBy 0 (F.taken files.old) (F.taken files.new) }
 {
-    match gather_ended(answering, begun, end, files) {
-        Ok(()) => answering.write_enough(out),
-        Err(_) => Err(SinkFault::OutOfMemory),
-    }
+    gather_ended(answering, begun, end, files)?;
+    answering.write_enough(out)
 }
 
 /// Answers the line that has begun and ends with these bytes. Where memory is refused nothing is said of what has

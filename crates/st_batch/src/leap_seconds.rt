@@ -3,9 +3,8 @@
 ghost use Rattle.std.specs.Prelude.{◌≡◌, ◌^◌, ◌≤ℤ◌, ◌+ℤ◌, ◌*ℤ◌, neg_ℤ, pos};
 ghost use Rattle.std.specs.List.{list_all};
 ghost use Rattle.st_batch.specs.LeapSecondsMachine as machine;
-ghost use Rattle.st_batch.specs.LeapSeconds.{IsOfDay};
 ghost use Rattle.st_batch.specs.LeapSeconds as table;
-ghost use Rattle.st_dates.specs.Label.{formal};
+ghost use Rattle.st_dates.specs.Label.{IsPlainLabel, formal};
 ghost use Rattle.st_dates.specs.declared.label.TheConstants as range;
 
 use st_dates::{FIRST, LAST, Label, formal_of};
@@ -17,10 +16,10 @@ const SECOND: i128 = 1_000_000_000_000_000_000;
 const DAY: i128 = 86_400 * SECOND;
 
 /// The most pairs of a table.
-const MAX_PAIRS: usize = 1000;
+pub const MAX_PAIRS: usize = 1000;
 
 /// The greatest count.
-const MAX_COUNT: u32 = 1000;
+pub const MAX_COUNT: u32 = 1000;
 
 /// From its date on, TAI is `count` seconds ahead of UTC.
 #[derive(Clone, Copy, Debug, PartialEq, Eq)]
@@ -125,7 +124,7 @@ fn count_on(pairs: &[LeapPair], midnight: i128) -> i64
 pub fn tai_of(pairs: &[LeapPair], label: Label) -> i128
     requires from { range.FIRST ≤ℤ formal label }
     requires to { formal label ≤ℤ range.LAST }
-    requires of_day { IsOfDay label }
+    requires of_day { IsPlainLabel label }
     ensures { result ≡ table.tai_of pairs.now label }
 {
     let midnight = formal_of(Label {

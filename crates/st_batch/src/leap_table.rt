@@ -6,7 +6,7 @@ ghost use Rattle.st_batch.specs.LeapTable.{IsPair, IsTableOf, PairUp};
 ghost use Rattle.st_batch.specs.Session.{HaveNoTable};
 ghost use Rattle.st_batch.specs.declared.leap_seconds.LeapPair.{LeapPair};
 
-use crate::leap_seconds::{LeapPair, is_table};
+use crate::leap_seconds::{LeapPair, MAX_COUNT, MAX_PAIRS, is_table};
 use crate::variable::numbers_of;
 use st_decimal::{Dec, OutOfMemory};
 use st_pool::Pool;
@@ -15,11 +15,8 @@ use std::alloc::Global;
 /// The variable that holds the table.
 const NAME: &[u8] = b"DELTET/DELTA_AT";
 
-/// The most values of a table: two for each of 1,000 pairs.
-const MAX_VALUES: usize = 2000;
-
-/// The greatest count.
-const MAX_COUNT: i64 = 1000;
+/// The most values of a table: two for each pair.
+const MAX_VALUES: usize = 2 * MAX_PAIRS;
 
 /// Why there is no table.
 #[derive(Clone, Copy, Debug, PartialEq, Eq)]
@@ -112,13 +109,10 @@ fn pair_of(count: Dec, date: Dec) -> Option<LeapPair>
     ensures some { IfSome result (IsPair count date) }
     ensures only { (pair : LeapPair) → IsPair count date pair → result ≡ Some pair }
 {
-    let count = count.whole()?;
-    if count < 0 || count > MAX_COUNT {
+    let count = u32::try_from(count.whole()?).ok()?;
+    if count > MAX_COUNT {
         return None;
     }
     let from = date.units18()?;
-    Some(LeapPair {
-        count: count as u32,
-        from,
-    })
+    Some(LeapPair { count, from })
 }

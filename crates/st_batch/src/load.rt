@@ -3,12 +3,12 @@
 ghost use Rattle.std.specs.Prelude.{◌≡◌, ◌≤◌, true, false, length, Ok, IfOk, IfErr, OnOk, OnErr};
 ghost use Rattle.st_batch.specs.Causes.{FileCounts, IsLoadCaused, RoseBy};
 ghost use Rattle.st_batch.specs.Load.{HasFile, IsRest, LoadGives, LoadRefuses};
-ghost use Rattle.st_batch.specs.LoadMachine.{BytesLoad, BytesRefuse, ReadRefuses, RestRefuses, refusal_of_load, refusal_of_text};
+ghost use Rattle.st_batch.specs.LoadMachine.{BytesLoad, BytesRefuse, ReadRefuses, RestRefuses};
 
 use crate::fault::LineFault;
-use st_kernel_text::{TextFault, read_kernel};
+use st_kernel_text::read_kernel;
 use st_outside::{Files, OpenFault};
-use st_pool::{LoadFault, Pool};
+use st_pool::Pool;
 use std::alloc::Global;
 
 /// The most bytes that a file may have.
@@ -47,35 +47,9 @@ fn load_bytes(alloc: Global, pool: &mut Pool, name: &[u8], bytes: &[u8]) -> Resu
     ensures err { IfErr result (BytesRefuse bytes.now pool.old) }
     ensures refused { OnErr result (pool.new ≡ pool.old) }
 {
-    let assignments = match read_kernel(alloc, bytes) {
-        Ok(assignments) => assignments,
-        Err(fault) => return Err(refused_text(fault)),
-    };
-    match pool.load(name, assignments) {
-        Ok(()) => Ok(()),
-        Err(fault) => Err(refused_load(fault)),
-    }
-}
-
-/// The refusal of a file that is no kernel.
-fn refused_text(fault: TextFault) -> LineFault
-    ensures { result ≡ refusal_of_text fault }
-{
-    match fault {
-        TextFault::At { line, cause } => LineFault::KernelText { line, cause },
-        TextFault::OutOfMemory => LineFault::OutOfMemory,
-    }
-}
-
-/// The refusal of a kernel that the pool doesn't take.
-fn refused_load(fault: LoadFault) -> LineFault
-    ensures { result ≡ refusal_of_load fault }
-{
-    match fault {
-        LoadFault::TooManyKernels => LineFault::TooManyKernels,
-        LoadFault::TooManyValues => LineFault::TooManyValues,
-        LoadFault::OutOfMemory => LineFault::OutOfMemory,
-    }
+    let assignments = read_kernel(alloc, bytes)?;
+    pool.load(name, assignments)?;
+    Ok(())
 }
 
 /// The bytes of the file of this name, which has at most `MAX_FILE`. No file is open afterwards.

@@ -42,11 +42,12 @@ impl Model for Session {
 }
 
 impl Session {
-    /// The session of a job: its setup file is loaded under its own name. The session keeps the allocator.
+    /// The session of a job: its setup file is loaded under its own name. Where the lines come from isn't looked at.
+    /// The session keeps the allocator.
     ///
     /// # Errors
     ///
-    /// Why the setup isn't loaded; the job is then dropped.
+    /// Why the setup isn't loaded.
     pub fn open<F: Files>(alloc: Global, job: Job, files: &mut F) -> Result<Session, LineFault>
         ensures ok { IfOk result (λ session. LoadGives (F.map files.old) [] job.setup (Ok session)) }
         ensures err { IfErr result (LoadRefuses (F.map files.old) [] job.setup) }

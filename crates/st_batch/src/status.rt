@@ -16,9 +16,9 @@ pub enum Status {
     BadWords(WordFault),
     /// The setup was refused.
     BadSetup(LineFault),
-    /// The input's count of faults rose.
+    /// A read of the input failed.
     ReadFault,
-    /// The output's count of faults rose.
+    /// The output took no more.
     WriteFault,
     /// Memory was refused.
     OutOfMemory,

@@ -13,13 +13,13 @@ ghost use Rattle.st_batch.specs.declared.status.Status.TheVariants.{BadSetup};
 
 use crate::answer::put_refused;
 use crate::fault::{LineFault, WordFault};
-use crate::input::answer_lines;
+use crate::input::{answer_lines, stopped};
 use crate::job::Job;
 use crate::session::Session;
 use crate::status::Status;
 use crate::words::read_words;
 use crate::write::write_all;
-use st_outside::{Files, Sink, SinkFault, Source};
+use st_outside::{Files, Sink, Source};
 use std::alloc::Global;
 
 /// Does all that the program does: reads the words, loads the setup, answers the lines and writes the answers.
@@ -133,7 +133,6 @@ fn deliver<O: Sink>(out: &mut O, output: &[u8], status: Status) -> Status
 {
     match write_all(out, output) {
         Ok(()) => status,
-        Err(SinkFault::Failed) => Status::WriteFault,
-        Err(SinkFault::OutOfMemory) => Status::OutOfMemory,
+        Err(fault) => stopped(fault),
     }
 }

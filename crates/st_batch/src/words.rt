@@ -72,12 +72,14 @@ fn are_first(
     are_options(setup, from, to) && are_systems(source, target) && is_name(name)
 }
 
+/// Whether these words are the options, in their order.
 fn are_options(setup: &String, from: &String, to: &String) -> bool
     ensures { result ≡ machine.are_options (string_bytes setup.now) (string_bytes from.now) (string_bytes to.now) }
 {
     setup.as_str() == "-setup" && from.as_str() == "-from" && to.as_str() == "-to"
 }
 
+/// Whether the source is UTC and the target TAI.
 fn are_systems(source: &String, target: &String) -> bool
     ensures { result ≡ machine.are_systems (string_bytes source.now) (string_bytes target.now) }
 {

@@ -16,10 +16,8 @@ pub fn write_all<O: Sink>(out: &mut O, bytes: &[u8]) -> Result<(), SinkFault>
 {
     let mut at = 0;
     while at < bytes.len() {
-        match out.write(&bytes[at..]) {
-            Ok(taken) => at += taken,
-            Err(fault) => return Err(fault),
-        }
+        let taken = out.write(&bytes[at..])?;
+        at += taken;
     }
     Ok(())
 }

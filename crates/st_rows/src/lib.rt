@@ -1,7 +1,6 @@
-//! The worked rows of the documentation, run through `st_batch::run` over the outside in memory.
+//! Worked rows, run through `st_batch::run` over the outside in memory, and a session by its own calls.
 //!
-//! Each table reads as a document: the words or the lines, and what the program writes for them. The expected
-//! texts were worked out from the definitions, apart from the program.
+//! Each table reads as a document: the words or the lines, and what the program writes for them.
 #![tactic(auto)]
 
 #[cfg(test)]

@@ -2,6 +2,7 @@ use Rattle.std.proofs.Common.{◌≡◌, ℕ, ◌+◌, ◌-◌, List, ◌++◌, 
 use Rattle.std.proofs.KnownBytes.{Appends-trans, Appends-kept}
 use Rattle.std.proofs.Math.Seq.{take-add}
 use Rattle.std.proofs.lemmas.List.{take-append-drop, take_all}
+use Rattle.st_batch.proofs.ReadLaws.{on-err}
 use Rattle.st_batch.proofs.write.write_all.Goals as goal
 
 -- the rest of a list has as many elements as are left, so that taking that many leaves it whole
@@ -13,15 +14,15 @@ loop-at-preserved g c =
     let xs = c.args.bytes.now in
     let at = c.loop-at.at in
     let whole = rest_whole at xs in
-    let joined : take at xs ++ take c.in-Ok.taken (take (length xs - at) (drop at xs)) ≡ take (at + c.in-Ok.taken) xs =
-    ap (λ (t : List ℕ). take at xs ++ take c.in-Ok.taken t) whole ∙ sym (take-add at c.in-Ok.taken xs) in
+    let joined : take at xs ++ take c.in_ok-taken.taken (take (length xs - at) (drop at xs)) ≡ take (at + c.in_ok-taken.taken) xs =
+    ap (λ (t : List ℕ). take at xs ++ take c.in_ok-taken.taken t) whole ∙ sym (take-add at c.in_ok-taken.taken xs) in
     record {
-      within = omega (arith, length-drop at xs, ap length whole, c.in-Ok.ensures.bound);
-      taken = rw joined at (Appends-trans _ _ _ _ _ c.loop-at.invariant.taken c.in-Ok.ensures.bytes);
+      within = omega (arith, length-drop at xs, ap length whole, c.in_ok-taken.ensures.bound);
+      taken = rw joined at (Appends-trans _ _ _ _ _ c.loop-at.invariant.taken c.in_ok-taken.ensures.bytes);
       later = omega arith;
     }
 
-pub returns-in-Err-clause-err : goal.returns-in-Err-clause-err
-returns-in-Err-clause-err g c =
-    let k = Appends-kept _ _ _ _ c.loop-at.invariant.taken c.in-Err.ensures.bytes in
-    (take c.loop-at.at c.args.bytes.now, drop c.loop-at.at c.args.bytes.now, k, sym (take-append-drop c.loop-at.at c.args.bytes.now))
+pub returns-in_err-taken-clause-err : goal.returns-in_err-taken-clause-err
+returns-in_err-taken-clause-err g c =
+    let k = Appends-kept _ _ _ _ c.loop-at.invariant.taken c.in_err-taken.ensures.bytes in
+    on-err c.from_residual.result (take c.loop-at.at c.args.bytes.now, drop c.loop-at.at c.args.bytes.now, k, sym (take-append-drop c.loop-at.at c.args.bytes.now))
