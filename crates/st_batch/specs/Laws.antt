@@ -1,15 +1,18 @@
 -- What the definitions of a run say by themselves, as laws.
-use Rattle.std.specs.Prelude.{◌≡◌, ◌≢◌, ℕ, ◌<◌, ◌^◌, ◌-◌, Option, Some, List, ◌++◌, count_by, ⊤}
+use Rattle.std.specs.Prelude.{◌≡◌, ◌≢◌, ℕ, ◌<◌, ◌^◌, ◌-◌, Option, Some, Ok, List, [], ◌++◌, count_by, length, ◌≤◌, ⊤}
 use Rattle.st_outside.specs.Entries.{Entries}
 use Rattle.st_pool.specs.declared.kernel.Kernel.{Kernel}
 use Rattle.st_batch.specs.declared.answer.Answer.{Answer}
 use Rattle.st_batch.specs.declared.answer.Answer.TheVariants.{Refused}
 use Rattle.st_batch.specs.declared.fault.LineFault.TheVariants.{FileFault}
+use Rattle.st_batch.specs.declared.job.Job.{Job}
 use Rattle.st_batch.specs.declared.status.Status.{Status}
-use Rattle.st_batch.specs.declared.status.Status.TheVariants.{Done, SomeRefused, BadWords, BadSetup}
+use Rattle.st_batch.specs.declared.status.Status.TheVariants.{Done, SomeRefused, BadWords, BadSetup, InputTooLong}
 use Rattle.st_batch.specs.Causes.{is_file_fault}
+use Rattle.st_batch.specs.Load.{LoadGives}
 use Rattle.st_batch.specs.Outcome.{Outside, Outcome}
 use Rattle.st_batch.specs.Session.{MayAnswer, RunsTo}
+use Rattle.st_batch.specs.Words.{AskFor}
 
 -- the run was not cut off
 abbrev pub IsComplete : Status → Type 0
@@ -45,3 +48,17 @@ EveryBeginningGoesOn =
     (files : Option Entries) (loaded after : List Kernel) (lines more : List (List ℕ)) (answers : List Answer)
     → RunsTo files loaded lines answers after
     → (later : List Answer) × ((last : List Kernel) × RunsTo files loaded (lines ++ more) (answers ++ later) last × (count_by is_file_fault later ≡ 0))
+
+-- all lines were answered, or a fault of the input or the output or want of memory cut the run off
+abbrev pub IsAnsweredOrCut : Status → Type 0
+IsAnsweredOrCut (BadWords fault) = ⊥
+IsAnsweredOrCut (BadSetup cause) = ⊥
+IsAnsweredOrCut InputTooLong = ⊥
+IsAnsweredOrCut status = ⊤
+
+-- Words that ask for a job, a setup that loads without a fault of the files, and an input that isn't too long are answered, unless the run is cut off.
+abbrev pub GoodRunIsAnswered : Type 0
+GoodRunIsAnswered =
+    (o : Outside) (files : Entries) (input : List ℕ) (words : List (List ℕ)) (job : Job) (loaded : List Kernel) (status : Status) (bytes : List ℕ)
+    → IsTold o files input → AskFor words job → LoadGives (Some files) [] job.setup (Ok loaded) → length input ≤ 67_108_864
+    → Outcome o words status bytes → IsAnsweredOrCut status

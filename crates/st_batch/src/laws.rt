@@ -1,6 +1,6 @@
 //! Laws of the definitions by which `run` is told. Each function does nothing; its contract is the law.
 
-ghost use Rattle.st_batch.specs.Laws.{OneOutput, EveryLineHasAnswer, EveryBeginningGoesOn};
+ghost use Rattle.st_batch.specs.Laws.{OneOutput, EveryLineHasAnswer, EveryBeginningGoesOn, GoodRunIsAnswered};
 
 /// Where the files and the input tell their bytes and the files had no fault there is one whole output, so that `run`,
 /// where it isn't cut off, is then a function of the words, the files and the input.
@@ -17,4 +17,10 @@ pub fn every_line_has_an_answer()
 /// such answers.
 pub fn every_beginning_goes_on()
     ensures { EveryBeginningGoesOn }
+{}
+
+/// Where the files and the input tell their bytes and the files had no fault, words that ask for a conversion, a setup that
+/// loads and an input that isn't too long are answered: only a fault of the input or the output, or want of memory, cuts the run off.
+pub fn good_run_is_answered()
+    ensures { GoodRunIsAnswered }
 {}
