@@ -1,5 +1,6 @@
 -- What contracts name of files in memory some of whose calls fail.
 use Rattle.std.specs.Prelude.{ℕ, List, Bool, Option}
+use Rattle.st_outside.specs.Causes.{FileCounts}
 use Rattle.st_outside.specs.Entries.{Entries}
 use Rattle.st_outside.specs.SafeFiles as safe
 use Rattle.st_outside.specs.declared.calls.Calls.{Calls}
@@ -17,14 +18,10 @@ is_open f = safe.is_open f.files
 abbrev pub left_of : MemFiles → Option (List ℕ)
 left_of f = safe.left_of f.files
 
--- how many names weren't found
-abbrev pub misses_of : MemFiles → ℕ
-misses_of f = safe.misses_of f.files
-
--- how many bytes have been given
-abbrev pub taken_of : MemFiles → ℕ
-taken_of f = safe.taken_of f.files
-
 -- the opens and reads so far, and those that fail
 abbrev pub calls_of : MemFiles → Calls
 calls_of f = f.calls
+
+-- how many names weren't found, how many calls failed, and how many bytes have been given
+abbrev pub counts_of : MemFiles → FileCounts
+counts_of f = record { misses = f.files.misses; faults = f.calls.failed; taken = f.files.taken }

@@ -1,5 +1,6 @@
 -- What contracts name of files in memory that never fail.
 use Rattle.std.specs.Prelude.{ℕ, List, Bool, Option, is_some, option_map, drop}
+use Rattle.st_outside.specs.Causes.{FileCounts}
 use Rattle.st_outside.specs.Entries.{Entries, bytes_at}
 use Rattle.st_outside.specs.declared.safe_files.SafeFiles.{SafeFiles}
 
@@ -15,10 +16,6 @@ is_open f = is_some f.reading
 abbrev pub left_of : SafeFiles → Option (List ℕ)
 left_of f = option_map (λ r. drop r.at (bytes_at f.entries r.place)) f.reading
 
--- how many names weren't found
-abbrev pub misses_of : SafeFiles → ℕ
-misses_of f = f.misses
-
--- how many bytes have been given
-abbrev pub taken_of : SafeFiles → ℕ
-taken_of f = f.taken
+-- how many names weren't found, and how many bytes have been given; nothing else fails
+abbrev pub counts_of : SafeFiles → FileCounts
+counts_of f = record { misses = f.misses; faults = 0; taken = f.taken }

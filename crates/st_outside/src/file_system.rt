@@ -1,6 +1,7 @@
 //! Real files.
 
 ghost use Rattle.std.specs.Prelude.{◌≡◌, false, None, is_some};
+ghost use Rattle.st_outside.specs.Causes.{FileCounts, no_counts};
 
 use crate::faults::{Failed, OpenFault};
 use crate::traits::Files;
@@ -23,9 +24,7 @@ impl<'a, R: rt::Files> FileSystem<'a, R> {
     /// The files that this runtime reaches, of which none is open.
     pub fn new(rt: &'a R) -> FileSystem<'a, R>
         ensures closed { ⟦<FileSystem<'a, R> as Files>⟧.opened result ≡ false }
-        ensures misses { ⟦<FileSystem<'a, R> as Files>⟧.misses result ≡ 0 }
-        ensures faults { ⟦<FileSystem<'a, R> as Files>⟧.faults result ≡ 0 }
-        ensures taken { ⟦<FileSystem<'a, R> as Files>⟧.taken result ≡ 0 }
+        ensures counts { ⟦<FileSystem<'a, R> as Files>⟧.counts result ≡ no_counts }
     {
         FileSystem {
             rt,
@@ -44,11 +43,7 @@ impl<'a, R: rt::Files> Files for FileSystem<'a, R> {
 
     ghost left = { λ _. None };
 
-    ghost misses = { λ f. f.misses };
-
-    ghost faults = { λ f. f.faults };
-
-    ghost taken = { λ f. f.taken };
+    ghost counts = { λ f. record { misses = f.misses; faults = f.faults; taken = f.taken } };
 
     fn open(&mut self, name: &[u8]) -> Result<(), OpenFault> {
         self.file = None;

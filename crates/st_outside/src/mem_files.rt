@@ -4,7 +4,7 @@ ghost use Rattle.std.specs.Prelude.{◌≡◌, ◌↔◌, ◌≤◌, true, false
 ghost use Rattle.std.specs.Io.{ReadsAtMost};
 ghost use Rattle.std.specs.Io.KnownBytes.{ReadConsumes};
 ghost use Rattle.st_outside.specs.Calls.{fails_next, IsFresh, Counted};
-ghost use Rattle.st_outside.specs.Causes.{Rose, Counts};
+ghost use Rattle.st_outside.specs.Causes.{AreLater, Counts, Rose, no_counts};
 ghost use Rattle.st_outside.specs.Entries.{Opens, bytes_of};
 
 use crate::calls::Calls;
@@ -21,15 +21,14 @@ pub struct MemFiles {
 }
 
 impl MemFiles {
-    ghost use Rattle.st_outside.specs.MemFiles.{entries_of, is_open, misses_of, taken_of, calls_of};
+    ghost use Rattle.st_outside.specs.MemFiles.{calls_of, counts_of, entries_of, is_open};
 
     /// These files, of which none is open. `failing` lists the opens and reads, counted together from 1, that
     /// fail.
     pub fn new(entries: FileMap, failing: Vec<u32>) -> MemFiles
         ensures map { entries_of result ≡ entries }
         ensures closed { is_open result ≡ false }
-        ensures misses { misses_of result ≡ 0 }
-        ensures taken { taken_of result ≡ 0 }
+        ensures counts { counts_of result ≡ no_counts }
         ensures calls { IsFresh (calls_of result) failing.items }
     {
         MemFiles {
@@ -40,7 +39,7 @@ impl MemFiles {
 }
 
 impl Files for MemFiles {
-    ghost use Rattle.st_outside.specs.MemFiles.{entries_of, is_open, left_of, misses_of, taken_of, calls_of};
+    ghost use Rattle.st_outside.specs.MemFiles.{calls_of, counts_of, entries_of, is_open, left_of};
 
     ghost map = { λ f. Some (entries_of f) };
 
@@ -48,11 +47,7 @@ impl Files for MemFiles {
 
     ghost left = { left_of };
 
-    ghost misses = { misses_of };
-
-    ghost faults = { λ f. (calls_of f).failed };
-
-    ghost taken = { taken_of };
+    ghost counts = { counts_of };
 
     // The trait's clauses, and that the map and the list of failing calls decide.
     fn open(&mut self, name: &[u8]) -> Result<(), OpenFault>
@@ -61,16 +56,15 @@ impl Files for MemFiles {
         ensures err { OnErr result (is_open self.new ≡ false) }
 
         ensures map { entries_of self.new ≡ entries_of self.old }
-        ensures taken { taken_of self.new ≡ taken_of self.old }
-        ensures misses_later { misses_of self.old ≤ misses_of self.new }
-        ensures faults_later { (calls_of self.old).failed ≤ (calls_of self.new).failed }
+        ensures taken { (counts_of self.new).taken ≡ (counts_of self.old).taken }
+        ensures later { AreLater (counts_of self.old) (counts_of self.new) }
 
         ensures listed { IsErrOf result OpenFault.Failed ↔ IsTrue (fails_next (calls_of self.old)) }
         ensures not_found { IsErrOf result OpenFault.Missing ↔ ((fails_next (calls_of self.old) ≡ false)
             × (bytes_of name.now (entries_of self.old) ≡ None)) }
         ensures found { IsOk result ↔ ((fails_next (calls_of self.old) ≡ false)
             × IsSome (bytes_of name.now (entries_of self.old))) }
-        ensures missed { IsErrOf result OpenFault.Missing → Rose (misses_of self.old) (misses_of self.new) }
+        ensures missed { IsErrOf result OpenFault.Missing → Rose (counts_of self.old).misses (counts_of self.new).misses }
         ensures counted { Counted (calls_of self.old) (calls_of self.new) }
     {
         if self.calls.fails() {
@@ -86,9 +80,9 @@ impl Files for MemFiles {
         ensures opened { is_open self.new ≡ true }
         ensures bound { ReadsAtMost result buf.new }
         ensures bytes { ReadConsumes (left_of self.old) (left_of self.new) result buf.new }
-        ensures count { Counts (taken_of self.old) (taken_of self.new) result }
+        ensures count { Counts (counts_of self.old).taken (counts_of self.new).taken result }
         ensures map { entries_of self.new ≡ entries_of self.old }
-        ensures misses { misses_of self.new ≡ misses_of self.old }
+        ensures misses { (counts_of self.new).misses ≡ (counts_of self.old).misses }
         ensures listed { IsErr result ↔ IsTrue (fails_next (calls_of self.old)) }
         ensures counted { Counted (calls_of self.old) (calls_of self.new) }
         ensures later { (calls_of self.old).failed ≤ (calls_of self.new).failed }
@@ -103,8 +97,7 @@ impl Files for MemFiles {
     fn close(&mut self)
         ensures closed { is_open self.new ≡ false }
         ensures map { entries_of self.new ≡ entries_of self.old }
-        ensures taken { taken_of self.new ≡ taken_of self.old }
-        ensures misses { misses_of self.new ≡ misses_of self.old }
+        ensures counts { counts_of self.new ≡ counts_of self.old }
         ensures calls { calls_of self.new ≡ calls_of self.old }
     {
         self.files.close();

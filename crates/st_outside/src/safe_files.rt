@@ -3,7 +3,7 @@
 ghost use Rattle.std.specs.Prelude.{◌≡◌, ◌↔◌, ◌≤◌, true, false, None, Some, IsOk, IsSome, OnOk, OnErr, IsErrOf, is_none};
 ghost use Rattle.std.specs.Io.{ReadsAtMost};
 ghost use Rattle.std.specs.Io.KnownBytes.{ReadConsumes};
-ghost use Rattle.st_outside.specs.Causes.{Counts, raised_if};
+ghost use Rattle.st_outside.specs.Causes.{AreLater, Counts, no_counts, raised_if};
 ghost use Rattle.st_outside.specs.Entries.{Opens, bytes_of};
 
 use crate::bytes::copy_from;
@@ -28,14 +28,13 @@ struct Reading {
 }
 
 impl SafeFiles {
-    ghost use Rattle.st_outside.specs.SafeFiles.{entries_of, is_open, misses_of, taken_of};
+    ghost use Rattle.st_outside.specs.SafeFiles.{counts_of, entries_of, is_open};
 
     /// These files, of which none is open.
     pub fn new(entries: FileMap) -> SafeFiles
         ensures map { entries_of result ≡ entries }
         ensures closed { is_open result ≡ false }
-        ensures misses { misses_of result ≡ 0 }
-        ensures taken { taken_of result ≡ 0 }
+        ensures counts { counts_of result ≡ no_counts }
     {
         SafeFiles {
             entries,
@@ -47,7 +46,7 @@ impl SafeFiles {
 }
 
 impl Files for SafeFiles {
-    ghost use Rattle.st_outside.specs.SafeFiles.{entries_of, is_open, left_of, misses_of, taken_of};
+    ghost use Rattle.st_outside.specs.SafeFiles.{counts_of, entries_of, is_open, left_of};
 
     ghost map = { λ f. Some (entries_of f) };
 
@@ -55,11 +54,7 @@ impl Files for SafeFiles {
 
     ghost left = { left_of };
 
-    ghost misses = { misses_of };
-
-    ghost faults = { λ _. 0 };
-
-    ghost taken = { taken_of };
+    ghost counts = { counts_of };
 
     // The trait's clauses, and that the map alone decides.
     fn open(&mut self, name: &[u8]) -> Result<(), OpenFault>
@@ -68,10 +63,10 @@ impl Files for SafeFiles {
         ensures err { OnErr result (is_open self.new ≡ false) }
 
         ensures map { entries_of self.new ≡ entries_of self.old }
-        ensures taken { taken_of self.new ≡ taken_of self.old }
-        ensures later { misses_of self.old ≤ misses_of self.new }
-        ensures misses { misses_of self.new
-            ≡ raised_if (is_none (bytes_of name.now (entries_of self.old))) (misses_of self.old) }
+        ensures taken { (counts_of self.new).taken ≡ (counts_of self.old).taken }
+        ensures later { AreLater (counts_of self.old) (counts_of self.new) }
+        ensures misses { (counts_of self.new).misses
+            ≡ raised_if (is_none (bytes_of name.now (entries_of self.old))) (counts_of self.old).misses }
 
         ensures found { IsOk result ↔ IsSome (bytes_of name.now (entries_of self.old)) }
         ensures not_found { IsErrOf result OpenFault.Missing
@@ -96,9 +91,9 @@ impl Files for SafeFiles {
         ensures opened { is_open self.new ≡ true }
         ensures bound { ReadsAtMost result buf.new }
         ensures bytes { ReadConsumes (left_of self.old) (left_of self.new) result buf.new }
-        ensures count { Counts (taken_of self.old) (taken_of self.new) result }
+        ensures count { Counts (counts_of self.old).taken (counts_of self.new).taken result }
         ensures map { entries_of self.new ≡ entries_of self.old }
-        ensures misses { misses_of self.new ≡ misses_of self.old }
+        ensures misses { (counts_of self.new).misses ≡ (counts_of self.old).misses }
         ensures safe { IsOk result }
     {
         let Some(reading) = &mut self.reading else {

@@ -7,7 +7,7 @@
 ghost use Rattle.std.specs.Prelude.{◌≡◌, ℕ, ◌<◌, ◌≤◌, List, length, Bool, true, false, Option, IfOk, OnOk, OnErr, IsErrOf};
 ghost use Rattle.std.specs.Io.{ReadsAtMost, WritesAtMost};
 ghost use Rattle.std.specs.Io.KnownBytes.{ReadConsumes, WriteAppends};
-ghost use Rattle.st_outside.specs.Causes.{Rose, HasCause, Counts};
+ghost use Rattle.st_outside.specs.Causes.{AreLater, Counts, FileCounts, HasCause, Rose};
 ghost use Rattle.st_outside.specs.Entries.{Entries, Opens, IsAbsent};
 
 use crate::faults::{Failed, OpenFault, SinkFault};
@@ -68,14 +68,8 @@ pub trait Files {
     // the bytes of the open file that are still to be read, where they are told
     ghost left: { Self → Option (List ℕ) };
 
-    // how many names weren't found
-    ghost misses: { Self → ℕ };
-
-    // how many calls have failed
-    ghost faults: { Self → ℕ };
-
-    // how many bytes have been given
-    ghost taken: { Self → ℕ };
+    // how many names weren't found, how many calls have failed, and how many bytes have been given
+    ghost counts: { Self → FileCounts };
 
     /// Closes the open file, if there is one, and opens the file of this name at its start.
     ///
@@ -88,15 +82,14 @@ pub trait Files {
         ensures err { OnErr result (opened self.new ≡ false) }
 
         ensures map { map self.new ≡ map self.old }
-        ensures taken { taken self.new ≡ taken self.old }
-        ensures misses_later { misses self.old ≤ misses self.new }
-        ensures faults_later { faults self.old ≤ faults self.new }
+        ensures taken { (counts self.new).taken ≡ (counts self.old).taken }
+        ensures later { AreLater (counts self.old) (counts self.new) }
 
         // With the clauses above and below, a name that isn't in a told map is Missing, unless a fault rose.
-        ensures missing { IsErrOf result OpenFault.Missing → Rose (misses self.old) (misses self.new) }
+        ensures missing { IsErrOf result OpenFault.Missing → Rose (counts self.old).misses (counts self.new).misses }
         ensures absent { IsErrOf result OpenFault.Missing → IsAbsent (map self.old) name.now }
-        ensures no_fault { IsErrOf result OpenFault.Missing → faults self.new ≡ faults self.old }
-        ensures failed { IsErrOf result OpenFault.Failed → Rose (faults self.old) (faults self.new) };
+        ensures no_fault { IsErrOf result OpenFault.Missing → (counts self.new).faults ≡ (counts self.old).faults }
+        ensures failed { IsErrOf result OpenFault.Failed → Rose (counts self.old).faults (counts self.new).faults };
 
     /// Reads the open file on, as [`Source::read`] does, and leaves it open.
     ///
@@ -108,16 +101,14 @@ pub trait Files {
         ensures opened { opened self.new ≡ true }
         ensures bound { ReadsAtMost result buf.new }
         ensures bytes { ReadConsumes (left self.old) (left self.new) result buf.new }
-        ensures count { Counts (taken self.old) (taken self.new) result }
-        ensures cause { HasCause (faults self.old) (faults self.new) result }
+        ensures count { Counts (counts self.old).taken (counts self.new).taken result }
+        ensures cause { HasCause (counts self.old).faults (counts self.new).faults result }
         ensures map { map self.new ≡ map self.old }
-        ensures misses { misses self.new ≡ misses self.old };
+        ensures misses { (counts self.new).misses ≡ (counts self.old).misses };
 
     /// Closes the open file, if there is one.
     fn close(&mut self)
         ensures closed { opened self.new ≡ false }
         ensures map { map self.new ≡ map self.old }
-        ensures taken { taken self.new ≡ taken self.old }
-        ensures misses { misses self.new ≡ misses self.old }
-        ensures faults { faults self.new ≡ faults self.old };
+        ensures counts { counts self.new ≡ counts self.old };
 }
