@@ -13,13 +13,13 @@ use Rattle.st_batch.specs.declared.job.Work.{Work}
 use Rattle.st_batch.specs.declared.job.Work.TheVariants.{Time, Batch}
 use Rattle.st_batch.specs.declared.status.Status.{Status}
 use Rattle.st_batch.specs.declared.status.Status.TheVariants.{Done, SomeRefused, BadWords, BadSetup, ReadFault, WriteFault, OutOfMemory, InputTooLong}
-use Rattle.st_batch.specs.Causes.{FileCounts}
+use Rattle.st_outside.specs.Causes.{FileCounts}
 use Rattle.st_batch.specs.Outcome.{Outside, line_of, is_refused, Took, IsLongInput}
 use Rattle.st_batch.specs.Progress.{Moment, Stops, Completes, Finishes, stopped_by, Cuts, EndsLines, Reads, Halts, ReadsInput, AllAnswered, SomeAnswered, LinesEnd}
 use Rattle.st_batch.specs.Words.{AreLines, IsShortInput}
 use Rattle.st_batch.proofs.CutLaws.{cuts-none}
-use Rattle.st_batch.proofs.ProgressLaws.{advances-none, finishes-after}
-use Rattle.st_batch.proofs.ReadLaws.{later-same, reads-join, halts-none, halts-after}
+use Rattle.st_batch.proofs.ProgressLaws.{advances-none, finishes-after, later-same}
+use Rattle.st_batch.proofs.ReadLaws.{reads-join, halts-none, halts-after}
 
 -- what stands around the answering from a moment on
 abbrev around : Option Entries → Option (List ℕ) → Moment → FileCounts → Outside

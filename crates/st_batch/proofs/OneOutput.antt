@@ -14,7 +14,8 @@ use Rattle.st_batch.specs.declared.job.Work.{Work}
 use Rattle.st_batch.specs.declared.job.Work.TheVariants.{Time, Batch}
 use Rattle.st_batch.specs.declared.status.Status.{Status}
 use Rattle.st_batch.specs.declared.status.Status.TheVariants.{Done, SomeRefused, BadWords, BadSetup, ReadFault, WriteFault, OutOfMemory, InputTooLong}
-use Rattle.st_batch.specs.Causes.{RoseBy, is_file_fault}
+use Rattle.st_outside.specs.Causes.{RoseBy}
+use Rattle.st_batch.specs.Causes.{is_file_fault}
 use Rattle.st_batch.specs.Laws.{IsComplete, IsTold, OneOutput, GoodRunIsAnswered}
 use Rattle.st_batch.specs.Load.{LoadGives}
 use Rattle.st_batch.specs.Outcome.{Outside, Answered, WordsRefused, SetupRefused, Outcome, line_of, status_of, IsLongInput}

@@ -12,9 +12,10 @@ use Rattle.st_batch.specs.declared.answer.Answer.{Answer}
 use Rattle.st_batch.specs.declared.answering.Answering.{Answering}
 use Rattle.st_batch.specs.declared.status.Status.{Status}
 use Rattle.st_batch.specs.declared.status.Status.TheVariants.{Done, SomeRefused, BadWords, BadSetup, ReadFault, WriteFault, OutOfMemory, InputTooLong}
-use Rattle.st_batch.specs.Causes.{FileCounts, RoseBy, AreCounted, is_no_file, is_file_fault, is_file_too_long}
+use Rattle.st_outside.specs.Causes.{AreLater, FileCounts, RoseBy}
+use Rattle.st_batch.specs.Causes.{AreCounted, is_no_file, is_file_fault, is_file_too_long}
 use Rattle.st_batch.specs.Outcome.{line_of, is_refused}
-use Rattle.st_batch.specs.Progress.{Moment, AreLater, AnswersOne, Writes, Advances, Stops, Completes, StopsWithin, Finishes, FinishesWriting}
+use Rattle.st_batch.specs.Progress.{Moment, AnswersOne, Writes, Advances, Stops, Completes, StopsWithin, Finishes, FinishesWriting}
 use Rattle.st_batch.specs.Session.{RunsTo}
 use Rattle.st_batch.specs.Taken.{TakesPrefix}
 
@@ -38,11 +39,22 @@ rose-later m a b c p q = omega arith
 bytes-join : (m n a b c : ℕ) → RoseBy (m * 16_777_217) a b → RoseBy (n * 16_777_217) b c → RoseBy ((m + n) * 16_777_217) a c
 bytes-join m n a b c p q = omega arith
 
-bytes-later : (m a b c : ℕ) → RoseBy (m * 16_777_217) a b → RoseBy 0 b c → RoseBy (m * 16_777_217) a c
+bytes-later : (m a b c : ℕ) → RoseBy (m * 16_777_217) a b → b ≤ c → RoseBy (m * 16_777_217) a c
 bytes-later m a b c p q = omega arith
 
 count-append : (p : Answer → Bool) (xs ys : List Answer) → count_by p (xs ++ ys) ≡ count_by p xs + count_by p ys
 count-append p xs ys = sum_by-append (λ x. cond (p x) 1 0) xs ys
+
+-- counts that stay are later, and so are those that are later in a row
+pub later-same : (a : FileCounts) → AreLater a a
+later-same a = record { misses = omega arith; faults = omega arith; taken = omega arith }
+
+pub later-join : (a b c : FileCounts) → AreLater a b → AreLater b c → AreLater a c
+later-join a b c p q = record {
+  misses = omega (arith, p.misses, q.misses);
+  faults = omega (arith, p.faults, q.faults);
+  taken = omega (arith, p.taken, q.taken);
+}
 
 -- no answers count for nothing
 pub counted-none : (a : FileCounts) → AreCounted a a []

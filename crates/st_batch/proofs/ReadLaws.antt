@@ -1,19 +1,15 @@
 -- How the answering of the lines of a text comes along.
-use Rattle.std.proofs.Common.{◌≡◌, ℕ, ◌<◌, Option, List, [], ◌∷◌, ◌++◌, length, refl, sym, ◌∙◌, ap, arith, subst, append_assoc, Result, Ok, Err, OnErr}
+use Rattle.std.proofs.Common.{◌≡◌, ℕ, ◌<◌, Option, List, [], ◌∷◌, ◌++◌, length, refl, sym, ◌∙◌, ap, subst, append_assoc, Result, Ok, Err, OnErr}
 use Rattle.st_outside.specs.Entries.{Entries}
 use Rattle.st_text.specs.Lines.{lines_of, without_cr}
 use Rattle.st_text.proofs.Splits.{lines_of-nil}
 use Rattle.st_batch.specs.declared.answering.Answering.{Answering}
 use Rattle.st_batch.specs.declared.status.Status.{Status}
-use Rattle.st_batch.specs.Causes.{FileCounts}
-use Rattle.st_batch.specs.Progress.{Moment, AreLater, AnswersOne, Writes, Finishes, FinishesWriting, HasNoFeed, CutsAtFeed, Reads, Halts, ReadsPart}
+use Rattle.st_outside.specs.Causes.{AreLater, FileCounts}
+use Rattle.st_batch.specs.Progress.{Moment, AnswersOne, Writes, Finishes, FinishesWriting, HasNoFeed, CutsAtFeed, Reads, Halts, ReadsPart}
 use Rattle.st_batch.specs.Taken.{TakesPrefix}
 use Rattle.st_batch.proofs.CutLaws.{joined_no_feed, lines-begun, cuts-none, cuts-join, cuts-begun, cuts-line, ends-cut, ends-none, ends-longer, ends-join}
-use Rattle.st_batch.proofs.ProgressLaws.{advances-none, advances-join, advances-one, advances-writes, stops-cut, stops-here, stops-after, finishes-written}
-
--- the counts are no later than themselves
-pub later-same : (a : FileCounts) → AreLater a a
-later-same a = record { misses = omega arith; faults = omega arith; taken = omega arith }
+use Rattle.st_batch.proofs.ProgressLaws.{advances-none, advances-join, advances-one, advances-writes, stops-cut, stops-here, stops-after, finishes-written, later-same}
 
 -- no line is begun: what is gathered is written
 pub last-none : (files : Option Entries) (a : Moment) (taken : Option (List ℕ)) (begun : List ℕ) (status : Status)

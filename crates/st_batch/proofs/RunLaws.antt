@@ -14,10 +14,11 @@ use Rattle.st_batch.specs.declared.answer.Answer.{Answer}
 use Rattle.st_batch.specs.declared.answer.Answer.TheVariants.{Refused}
 use Rattle.st_batch.specs.declared.status.Status.{Status}
 use Rattle.st_batch.specs.declared.status.Status.TheVariants.{Done, SomeRefused, BadWords, BadSetup, ReadFault, WriteFault, OutOfMemory, InputTooLong}
-use Rattle.st_batch.specs.Causes.{FileCounts, RoseBy, AreCounted, is_file_fault, IsCaused, IsLoadCaused, IsStatusCaused}
+use Rattle.st_outside.specs.Causes.{AreLater, FileCounts, RoseBy}
+use Rattle.st_batch.specs.Causes.{AreCounted, is_file_fault, IsCaused, IsLoadCaused, IsStatusCaused}
 use Rattle.st_batch.specs.Load.{LoadGives, LoadRefuses}
 use Rattle.st_batch.specs.Outcome.{Outside, Answered, BeginsAnswers, BeginsAllowed, Outcome, AnswersAll, Took, ReadsAll, ReadsNothing}
-use Rattle.st_batch.specs.Progress.{AllAnswered, SomeAnswered, LinesEnd, IsOfLines, AreLater}
+use Rattle.st_batch.specs.Progress.{AllAnswered, SomeAnswered, LinesEnd, IsOfLines}
 use Rattle.st_batch.specs.Texts.{refusal_text}
 use Rattle.st_batch.specs.Words.{AskFor, AskForNone, AreLines}
 use Rattle.st_batch.specs.Written.{Delivers, ReadsNone, IsCut, IsOfJob, WordsFit}

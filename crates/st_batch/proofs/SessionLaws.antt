@@ -7,7 +7,8 @@ use Rattle.st_batch.specs.declared.answer.Answer.{Answer}
 use Rattle.st_batch.specs.declared.answer.Answer.TheVariants.{Text, Refused}
 use Rattle.st_batch.specs.declared.fault.LineFault.TheVariants.{BadCommand, LineTooLong, NoFile, FileFault, FileTooLong, KernelText, TooManyKernels, TooManyValues, NotLoaded, NotBuilt, BadTime, OutOfMemory}
 use Rattle.st_batch.specs.declared.session.TheConstants.{MAX_LINE}
-use Rattle.st_batch.specs.Causes.{FileCounts, IsAnswerCaused}
+use Rattle.st_outside.specs.Causes.{FileCounts}
+use Rattle.st_batch.specs.Causes.{IsAnswerCaused}
 use Rattle.st_batch.specs.Line.{TimeGives}
 use Rattle.st_batch.specs.Session.{IsLine, MayAnswer}
 use Rattle.st_batch.specs.SessionMachine.{CommandAnswers, TimeLineGives}

@@ -1,21 +1,12 @@
 -- Refusals that come only with a cause outside: a count of the files that rose.
-use Rattle.std.specs.Prelude.{◌≡◌, ℕ, ◌+◌, ◌*◌, ◌-◌, ◌^◌, ◌≤◌, min, count_by, Bool, true, false, List, ⊤}
+use Rattle.std.specs.Prelude.{◌≡◌, ◌*◌, count_by, Bool, true, false, List, ⊤}
+use Rattle.st_outside.specs.Causes.{FileCounts, Rose, RoseBeyond, RoseBy}
 use Rattle.st_batch.specs.declared.answer.Answer.{Answer}
 use Rattle.st_batch.specs.declared.answer.Answer.TheVariants.{Refused}
 use Rattle.st_batch.specs.declared.fault.LineFault.{LineFault}
 use Rattle.st_batch.specs.declared.fault.LineFault.TheVariants as line
 use Rattle.st_batch.specs.declared.status.Status.{Status}
 use Rattle.st_batch.specs.declared.status.Status.TheVariants.{BadSetup}
-
--- a count of 64 bits has gone up by at least n, or stands at its type's last value
-abbrev pub RoseBy : ℕ → ℕ → ℕ → Type 0
-RoseBy n before now = min (before + n) (2 ^ 64 - 1) ≤ now
-
--- the counts of the files: names that weren't found, calls that failed, and bytes that were given
-pub record FileCounts : Type 0 where
-  pub misses : ℕ
-  pub faults : ℕ
-  pub taken : ℕ
 
 abbrev pub is_no_file : Answer → Bool
 is_no_file (Refused line.NoFile) = true
@@ -39,9 +30,9 @@ pub record AreCounted (before now : FileCounts) (answers : List Answer) : Type 0
 -- Refusals with a cause in one call: a file that isn't there has a miss and no fault, a faulty one a fault, and one that is too
 -- long more bytes taken than a file may have. Want of memory refuses no line.
 abbrev pub IsCaused : LineFault → FileCounts → FileCounts → Type 0
-IsCaused line.NoFile before now = RoseBy 1 before.misses now.misses × (now.faults ≡ before.faults)
-IsCaused line.FileFault before now = RoseBy 1 before.faults now.faults
-IsCaused line.FileTooLong before now = RoseBy 16_777_217 before.taken now.taken
+IsCaused line.NoFile before now = Rose before.misses now.misses × (now.faults ≡ before.faults)
+IsCaused line.FileFault before now = Rose before.faults now.faults
+IsCaused line.FileTooLong before now = RoseBeyond 16_777_216 before.taken now.taken
 IsCaused line.OutOfMemory before now = ⊥
 IsCaused cause before now = ⊤
 

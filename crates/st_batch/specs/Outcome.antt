@@ -2,6 +2,7 @@
 use Rattle.std.specs.Prelude.{◌≡◌, count_by, ℕ, ◌<◌, Bool, true, false, if◌then◌else◌, Ok, Err, Option, Some, None, List, [], ◌∷◌, ◌++◌, length, codes, ◌⊎◌, ⊤}
 use Rattle.std.specs.Io.KnownBytes.{Appends}
 use Rattle.std.specs.List.{flat_map, list_any}
+use Rattle.st_outside.specs.Causes.{FileCounts, RoseBy}
 use Rattle.st_outside.specs.Entries.{Entries}
 use Rattle.st_pool.specs.declared.kernel.Kernel.{Kernel}
 use Rattle.st_batch.specs.declared.answer.Answer.{Answer}
@@ -12,7 +13,7 @@ use Rattle.st_batch.specs.declared.job.Job.{Job}
 use Rattle.st_batch.specs.declared.job.Work.TheVariants.{Batch}
 use Rattle.st_batch.specs.declared.status.Status.{Status}
 use Rattle.st_batch.specs.declared.status.Status.TheVariants.{Done, SomeRefused, BadWords, BadSetup, ReadFault, WriteFault, OutOfMemory, InputTooLong}
-use Rattle.st_batch.specs.Causes.{FileCounts, AreCounted, RoseBy, is_file_fault}
+use Rattle.st_batch.specs.Causes.{AreCounted, is_file_fault}
 use Rattle.st_batch.specs.Load.{LoadGives}
 use Rattle.st_batch.specs.Session.{RunsTo}
 use Rattle.st_batch.specs.Texts.{refusal_text}

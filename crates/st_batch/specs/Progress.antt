@@ -1,8 +1,9 @@
 -- How far the answering of lines has come.
-use Rattle.std.specs.Prelude.{◌≡◌, ℕ, ◌≤◌, true, false, ◌||◌, ◌==◌, if◌then◌else◌, Option, List, [], ◌∷◌, ◌++◌, length, ⊤}
+use Rattle.std.specs.Prelude.{◌≡◌, ℕ, true, false, ◌||◌, ◌==◌, if◌then◌else◌, Option, List, [], ◌∷◌, ◌++◌, length, ⊤}
 use Rattle.std.specs.Io.KnownBytes.{Appends, Consumes}
 use Rattle.std.specs.List.{flat_map, list_any}
 use Rattle.st_text.specs.Lines.{lines_of}
+use Rattle.st_outside.specs.Causes.{FileCounts}
 use Rattle.st_outside.specs.Entries.{Entries}
 use Rattle.st_outside.specs.declared.faults.SinkFault.{SinkFault}
 use Rattle.st_outside.specs.declared.faults.SinkFault.TheVariants as fault
@@ -12,7 +13,7 @@ use Rattle.st_batch.specs.declared.answering.Answering.{Answering}
 use Rattle.st_batch.specs.declared.job.Work.{Work}
 use Rattle.st_batch.specs.declared.status.Status.{Status}
 use Rattle.st_batch.specs.declared.status.Status.TheVariants.{Done, SomeRefused, BadWords, BadSetup, WriteFault, OutOfMemory, InputTooLong}
-use Rattle.st_batch.specs.Causes.{FileCounts, AreCounted, RoseBy}
+use Rattle.st_batch.specs.Causes.{AreCounted}
 use Rattle.st_batch.specs.Outcome.{Outside, line_of, is_refused, status_of, IsLongInput}
 use Rattle.st_batch.specs.Session.{MayAnswer, RunsTo}
 use Rattle.st_batch.specs.Taken.{TakesPrefix}
@@ -23,12 +24,6 @@ pub record Moment : Type 0 where
   pub counts : FileCounts
   pub taken : Option (List ℕ)
   pub answering : Answering
-
--- no count fell
-pub record AreLater (before now : FileCounts) : Type 0 where
-  pub misses : before.misses ≤ now.misses
-  pub faults : before.faults ≤ now.faults
-  pub taken : RoseBy 0 before.taken now.taken
 
 -- a line was answered, and its answer gathered
 pub record AnswersOne (files : Option Entries) (before now : FileCounts) (from to : Answering) (line : List ℕ) : Type 0 where

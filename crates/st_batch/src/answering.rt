@@ -2,8 +2,7 @@
 
 ghost use Rattle.std.specs.Prelude.{◌≡◌, ◌≤◌, ◌<◌, length, false, if◌then◌else◌, [], OnOk, OnErr, IsErrOf};
 ghost use Rattle.std.specs.Io.KnownBytes.{Appends};
-ghost use Rattle.st_outside.specs.Causes.{Rose};
-ghost use Rattle.st_batch.specs.Causes.{FileCounts, RoseBy};
+ghost use Rattle.st_outside.specs.Causes.{AreLater, Rose};
 ghost use Rattle.st_batch.specs.Progress.{AnswersOne, Writes};
 ghost use Rattle.st_batch.specs.Taken.{TakesPrefix};
 
@@ -45,16 +44,12 @@ impl Answering {
 
     /// Answers one line. Where memory is refused nothing of its answer is gathered.
     pub fn answer<F: Files>(&mut self, line: &[u8], files: &mut F) -> Result<(), OutOfMemory>
-        ensures ok { OnOk result (AnswersOne (F.map files.old)
-            (record { misses = F.misses files.old; faults = F.faults files.old; taken = F.taken files.old })
-            (record { misses = F.misses files.new; faults = F.faults files.new; taken = F.taken files.new })
+        ensures ok { OnOk result (AnswersOne (F.map files.old) (F.counts files.old) (F.counts files.new)
             self.old self.new line.now) }
         ensures err { OnErr result (self.new.gathered.items ≡ self.old.gathered.items) }
         ensures closed { F.opened files.old ≡ false → F.opened files.new ≡ false }
         ensures map { F.map files.new ≡ F.map files.old }
-        ensures misses_later { F.misses files.old ≤ F.misses files.new }
-        ensures faults_later { F.faults files.old ≤ F.faults files.new }
-        ensures taken_later { RoseBy 0 (F.taken files.old) (F.taken files.new) }
+        ensures later { AreLater (F.counts files.old) (F.counts files.new) }
     {
         let answer = self.session.answer_line(line, files)?;
         let mut text = Vec::new(self.alloc);

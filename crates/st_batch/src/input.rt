@@ -2,8 +2,7 @@
 
 ghost use Rattle.std.specs.Prelude.{◌≡◌, ◌+◌, ◌≢◌, ◌≤◌, ◌==◌, false, [], ◌∷◌, ◌++◌, length, position, MatchOption, OnOk, OnErr, IsErrOf};
 ghost use Rattle.std.specs.Io.KnownBytes.{IsAtEnd};
-ghost use Rattle.st_outside.specs.Causes.{Rose, RoseBeyond};
-ghost use Rattle.st_batch.specs.Causes.{FileCounts, RoseBy};
+ghost use Rattle.st_outside.specs.Causes.{AreLater, Rose, RoseBeyond};
 ghost use Rattle.st_text.specs.Lines as lines;
 ghost use Rattle.st_batch.specs.Outcome.{AnswersAll, Took};
 ghost use Rattle.st_batch.specs.Progress.{AnswersOne, CutsAtFeed, Finishes, FinishesWriting, Halts, HasNoFeed, IsOfLines, LinesEnd, Reads, stopped_by};
@@ -37,8 +36,8 @@ pub fn answer_lines<F: Files, I: Source, O: Sink>(
         (record {
           files = F.map files.old;
           input = I.left input.old;
-          before = record { misses = F.misses files.old; faults = F.faults files.old; taken = F.taken files.old };
-          now = record { misses = F.misses files.new; faults = F.faults files.new; taken = F.taken files.new };
+          before = F.counts files.old;
+          now = F.counts files.new;
         }) work.now session result bytes) }
     ensures of_lines { IsOfLines result }
     ensures write_fault { result ≡ Status.WriteFault → Rose (O.faults out.old) (O.faults out.new) }
@@ -51,9 +50,7 @@ pub fn answer_lines<F: Files, I: Source, O: Sink>(
     ensures faults { work.now ≢ Work.Batch → I.faults input.new ≡ I.faults input.old }
     ensures closed { F.opened files.old ≡ false → F.opened files.new ≡ false }
     ensures map { F.map files.new ≡ F.map files.old }
-    ensures misses_later { F.misses files.old ≤ F.misses files.new }
-    ensures faults_later { F.faults files.old ≤ F.faults files.new }
-    ensures taken_later { RoseBy 0 (F.taken files.old) (F.taken files.new) }
+    ensures later { AreLater (F.counts files.old) (F.counts files.new) }
 {
     let mut answering = Answering::new(alloc, session);
     match work {
@@ -75,8 +72,8 @@ fn answer_input<F: Files, I: Source, O: Sink>(
         (record {
           files = F.map files.old;
           input = I.left input.old;
-          before = record { misses = F.misses files.old; faults = F.faults files.old; taken = F.taken files.old };
-          now = record { misses = F.misses files.new; faults = F.faults files.new; taken = F.taken files.new };
+          before = F.counts files.old;
+          now = F.counts files.new;
         }) Batch answering.old.session result bytes) }
     ensures of_lines { IsOfLines result }
     ensures write_fault { result ≡ Status.WriteFault → Rose (O.faults out.old) (O.faults out.new) }
@@ -86,9 +83,7 @@ fn answer_input<F: Files, I: Source, O: Sink>(
     ensures short { AnswersAll result → I.taken input.new ≤ I.taken input.old + 67108864 }
     ensures closed { F.opened files.old ≡ false → F.opened files.new ≡ false }
     ensures map { F.map files.new ≡ F.map files.old }
-    ensures misses_later { F.misses files.old ≤ F.misses files.new }
-    ensures faults_later { F.faults files.old ≤ F.faults files.new }
-    ensures taken_later { RoseBy 0 (F.taken files.old) (F.taken files.new) }
+    ensures later { AreLater (F.counts files.old) (F.counts files.new) }
 {
     let mut begun = Vec::new(answering.alloc);
     let mut piece = [0u8; PIECE];
@@ -120,19 +115,12 @@ fn answer_last<F: Files, O: Sink>(
 ) -> Status
     requires { HasNoFeed begun.now }
     ensures finished { Finishes (F.map files.old)
-        (record {
-          counts = record { misses = F.misses files.old; faults = F.faults files.old; taken = F.taken files.old };
-          taken = O.taken out.old;
-          answering = answering.old;
-        })
-        (record { misses = F.misses files.new; faults = F.faults files.new; taken = F.taken files.new })
-        (O.taken out.new) (lines.lines_of begun.now) result }
+        (record { counts = F.counts files.old; taken = O.taken out.old; answering = answering.old })
+        (F.counts files.new) (O.taken out.new) (lines.lines_of begun.now) result }
     ensures write_fault { result ≡ Status.WriteFault → Rose (O.faults out.old) (O.faults out.new) }
     ensures closed { F.opened files.old ≡ false → F.opened files.new ≡ false }
     ensures map { F.map files.new ≡ F.map files.old }
-    ensures misses_later { F.misses files.old ≤ F.misses files.new }
-    ensures faults_later { F.faults files.old ≤ F.faults files.new }
-    ensures taken_later { RoseBy 0 (F.taken files.old) (F.taken files.new) }
+    ensures later { AreLater (F.counts files.old) (F.counts files.new) }
 {
     if begun.is_empty() {
         finish(answering, out)
@@ -149,19 +137,12 @@ fn answer_one<F: Files, O: Sink>(
     out: &mut O,
 ) -> Status
     ensures finished { Finishes (F.map files.old)
-        (record {
-          counts = record { misses = F.misses files.old; faults = F.faults files.old; taken = F.taken files.old };
-          taken = O.taken out.old;
-          answering = answering.old;
-        })
-        (record { misses = F.misses files.new; faults = F.faults files.new; taken = F.taken files.new })
-        (O.taken out.new) (line.now ∷ []) result }
+        (record { counts = F.counts files.old; taken = O.taken out.old; answering = answering.old })
+        (F.counts files.new) (O.taken out.new) (line.now ∷ []) result }
     ensures write_fault { result ≡ Status.WriteFault → Rose (O.faults out.old) (O.faults out.new) }
     ensures closed { F.opened files.old ≡ false → F.opened files.new ≡ false }
     ensures map { F.map files.new ≡ F.map files.old }
-    ensures misses_later { F.misses files.old ≤ F.misses files.new }
-    ensures faults_later { F.faults files.old ≤ F.faults files.new }
-    ensures taken_later { RoseBy 0 (F.taken files.old) (F.taken files.new) }
+    ensures later { AreLater (F.counts files.old) (F.counts files.new) }
 {
     match answering.answer(line, files) {
         Ok(()) => finish(answering, out),
@@ -201,33 +182,18 @@ fn answer_piece<F: Files, O: Sink>(
 ) -> Result<(), SinkFault>
     requires { HasNoFeed begun.old.items }
     ensures ok { OnOk result (Reads (F.map files.old)
-        (record {
-          counts = record { misses = F.misses files.old; faults = F.faults files.old; taken = F.taken files.old };
-          taken = O.taken out.old;
-          answering = answering.old;
-        })
-        (record {
-          counts = record { misses = F.misses files.new; faults = F.faults files.new; taken = F.taken files.new };
-          taken = O.taken out.new;
-          answering = answering.new;
-        })
+        (record { counts = F.counts files.old; taken = O.taken out.old; answering = answering.old })
+        (record { counts = F.counts files.new; taken = O.taken out.new; answering = answering.new })
         begun.old.items piece.now begun.new.items) }
     ensures gathered { OnOk result (answering.new.gathered.items ≡ []) }
     ensures err { OnErr result (Halts (F.map files.old)
-        (record {
-          counts = record { misses = F.misses files.old; faults = F.faults files.old; taken = F.taken files.old };
-          taken = O.taken out.old;
-          answering = answering.old;
-        })
-        (record { misses = F.misses files.new; faults = F.faults files.new; taken = F.taken files.new })
-        (O.taken out.new) begun.old.items piece.now) }
-    ensures later { O.faults out.old ≤ O.faults out.new }
+        (record { counts = F.counts files.old; taken = O.taken out.old; answering = answering.old })
+        (F.counts files.new) (O.taken out.new) begun.old.items piece.now) }
+    ensures output { O.faults out.old ≤ O.faults out.new }
     ensures cause { IsErrOf result SinkFault.Failed → Rose (O.faults out.old) (O.faults out.new) }
     ensures closed { F.opened files.old ≡ false → F.opened files.new ≡ false }
     ensures map { F.map files.new ≡ F.map files.old }
-    ensures misses_later { F.misses files.old ≤ F.misses files.new }
-    ensures faults_later { F.faults files.old ≤ F.faults files.new }
-    ensures taken_later { RoseBy 0 (F.taken files.old) (F.taken files.new) }
+    ensures later { AreLater (F.counts files.old) (F.counts files.new) }
 {
     let mut rest = piece;
     while let Some((end, behind)) = ended_line(rest) {
@@ -267,32 +233,17 @@ fn answer_ended<F: Files, O: Sink>(
     requires begun { HasNoFeed begun.old.items }
     requires end { HasNoFeed end.now }
     ensures ok { OnOk result (Reads (F.map files.old)
-        (record {
-          counts = record { misses = F.misses files.old; faults = F.faults files.old; taken = F.taken files.old };
-          taken = O.taken out.old;
-          answering = answering.old;
-        })
-        (record {
-          counts = record { misses = F.misses files.new; faults = F.faults files.new; taken = F.taken files.new };
-          taken = O.taken out.new;
-          answering = answering.new;
-        })
+        (record { counts = F.counts files.old; taken = O.taken out.old; answering = answering.old })
+        (record { counts = F.counts files.new; taken = O.taken out.new; answering = answering.new })
         begun.old.items (end.now ++ (10 ∷ [])) begun.new.items) }
     ensures err { OnErr result (Halts (F.map files.old)
-        (record {
-          counts = record { misses = F.misses files.old; faults = F.faults files.old; taken = F.taken files.old };
-          taken = O.taken out.old;
-          answering = answering.old;
-        })
-        (record { misses = F.misses files.new; faults = F.faults files.new; taken = F.taken files.new })
-        (O.taken out.new) begun.old.items (end.now ++ (10 ∷ []))) }
-    ensures later { O.faults out.old ≤ O.faults out.new }
+        (record { counts = F.counts files.old; taken = O.taken out.old; answering = answering.old })
+        (F.counts files.new) (O.taken out.new) begun.old.items (end.now ++ (10 ∷ []))) }
+    ensures output { O.faults out.old ≤ O.faults out.new }
     ensures cause { IsErrOf result SinkFault.Failed → Rose (O.faults out.old) (O.faults out.new) }
     ensures closed { F.opened files.old ≡ false → F.opened files.new ≡ false }
     ensures map { F.map files.new ≡ F.map files.old }
-    ensures misses_later { F.misses files.old ≤ F.misses files.new }
-    ensures faults_later { F.faults files.old ≤ F.faults files.new }
-    ensures taken_later { RoseBy 0 (F.taken files.old) (F.taken files.new) }
+    ensures later { AreLater (F.counts files.old) (F.counts files.new) }
 {
     gather_ended(answering, begun, end, files)?;
     answering.write_enough(out)
@@ -306,16 +257,12 @@ fn gather_ended<F: Files>(
     end: &[u8],
     files: &mut F,
 ) -> Result<(), OutOfMemory>
-    ensures ok { OnOk result (AnswersOne (F.map files.old)
-        (record { misses = F.misses files.old; faults = F.faults files.old; taken = F.taken files.old })
-        (record { misses = F.misses files.new; faults = F.faults files.new; taken = F.taken files.new })
+    ensures ok { OnOk result (AnswersOne (F.map files.old) (F.counts files.old) (F.counts files.new)
         answering.old answering.new (lines.without_cr (begun.old.items ++ end.now))) }
     ensures begun { OnOk result (begun.new.items ≡ []) }
     ensures closed { F.opened files.old ≡ false → F.opened files.new ≡ false }
     ensures map { F.map files.new ≡ F.map files.old }
-    ensures misses_later { F.misses files.old ≤ F.misses files.new }
-    ensures faults_later { F.faults files.old ≤ F.faults files.new }
-    ensures taken_later { RoseBy 0 (F.taken files.old) (F.taken files.new) }
+    ensures later { AreLater (F.counts files.old) (F.counts files.new) }
 {
     if begun.is_empty() {
         return answering.answer(without_cr(end), files);

@@ -1,7 +1,8 @@
 //! Loading a file by its name.
 
 ghost use Rattle.std.specs.Prelude.{◌≡◌, ◌≤◌, true, false, length, Ok, IfOk, IfErr, OnOk, OnErr};
-ghost use Rattle.st_batch.specs.Causes.{FileCounts, IsLoadCaused, RoseBy};
+ghost use Rattle.st_outside.specs.Causes.{AreLater};
+ghost use Rattle.st_batch.specs.Causes.{IsLoadCaused};
 ghost use Rattle.st_batch.specs.Load.{HasFile, IsRest, LoadGives, LoadRefuses};
 ghost use Rattle.st_batch.specs.LoadMachine.{BytesLoad, BytesRefuse, ReadRefuses, RestRefuses};
 
@@ -28,14 +29,10 @@ pub fn load_file<F: Files>(
     ensures ok { OnOk result (LoadGives (F.map files.old) pool.old name.now (Ok pool.new)) }
     ensures err { IfErr result (LoadRefuses (F.map files.old) pool.old name.now) }
     ensures refused { OnErr result (pool.new ≡ pool.old) }
-    ensures cause { IfErr result (λ fault. IsLoadCaused fault
-        (record { misses = F.misses files.old; faults = F.faults files.old; taken = F.taken files.old })
-        (record { misses = F.misses files.new; faults = F.faults files.new; taken = F.taken files.new })) }
+    ensures cause { IfErr result (λ fault. IsLoadCaused fault (F.counts files.old) (F.counts files.new)) }
     ensures closed { F.opened files.new ≡ false }
     ensures map { F.map files.new ≡ F.map files.old }
-    ensures misses_later { F.misses files.old ≤ F.misses files.new }
-    ensures faults_later { F.faults files.old ≤ F.faults files.new }
-    ensures taken_later { RoseBy 0 (F.taken files.old) (F.taken files.new) }
+    ensures later { AreLater (F.counts files.old) (F.counts files.new) }
 {
     let bytes = read_file(alloc, name, files)?;
     load_bytes(alloc, pool, name, bytes.as_slice())
@@ -57,14 +54,10 @@ pub fn read_file<F: Files>(alloc: Global, name: &[u8], files: &mut F) -> Result<
     ensures ok { IfOk result (λ bytes. HasFile (F.map files.old) name.now bytes.items) }
     ensures few { IfOk result (λ bytes. length bytes.items ≤ 16777216) }
     ensures err { IfErr result (ReadRefuses (F.map files.old) name.now) }
-    ensures cause { IfErr result (λ fault. IsLoadCaused fault
-        (record { misses = F.misses files.old; faults = F.faults files.old; taken = F.taken files.old })
-        (record { misses = F.misses files.new; faults = F.faults files.new; taken = F.taken files.new })) }
+    ensures cause { IfErr result (λ fault. IsLoadCaused fault (F.counts files.old) (F.counts files.new)) }
     ensures closed { F.opened files.new ≡ false }
     ensures map { F.map files.new ≡ F.map files.old }
-    ensures misses_later { F.misses files.old ≤ F.misses files.new }
-    ensures faults_later { F.faults files.old ≤ F.faults files.new }
-    ensures taken_later { RoseBy 0 (F.taken files.old) (F.taken files.new) }
+    ensures later { AreLater (F.counts files.old) (F.counts files.new) }
 {
     if let Err(fault) = files.open(name) {
         return Err(match fault {
@@ -84,13 +77,10 @@ fn read_open<F: Files>(alloc: Global, files: &mut F) -> Result<Vec<u8>, LineFaul
     ensures ok { IfOk result (λ bytes. IsRest (F.left files.old) bytes.items) }
     ensures few { IfOk result (λ bytes. length bytes.items ≤ 16777216) }
     ensures err { IfErr result (RestRefuses (F.left files.old)) }
-    ensures cause { IfErr result (λ fault. IsLoadCaused fault
-        (record { misses = F.misses files.old; faults = F.faults files.old; taken = F.taken files.old })
-        (record { misses = F.misses files.new; faults = F.faults files.new; taken = F.taken files.new })) }
+    ensures cause { IfErr result (λ fault. IsLoadCaused fault (F.counts files.old) (F.counts files.new)) }
     ensures map { F.map files.new ≡ F.map files.old }
-    ensures misses { F.misses files.new ≡ F.misses files.old }
-    ensures later { F.faults files.old ≤ F.faults files.new }
-    ensures taken_later { RoseBy 0 (F.taken files.old) (F.taken files.new) }
+    ensures misses { (F.counts files.new).misses ≡ (F.counts files.old).misses }
+    ensures later { AreLater (F.counts files.old) (F.counts files.new) }
 {
     let mut bytes = Vec::new(alloc);
     let mut buf = [0u8; 4096];

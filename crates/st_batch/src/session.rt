@@ -2,7 +2,8 @@
 
 ghost use Rattle.std.specs.Prelude.{◌≡◌, ◌≤◌, [], true, false, Ok, IfOk, IfErr, OnErr};
 ghost use Rattle.st_text.specs.Lines.{trimmed};
-ghost use Rattle.st_batch.specs.Causes.{FileCounts, IsAnswerCaused, IsLoadCaused, RoseBy};
+ghost use Rattle.st_outside.specs.Causes.{AreLater};
+ghost use Rattle.st_batch.specs.Causes.{IsAnswerCaused, IsLoadCaused};
 ghost use Rattle.st_batch.specs.Commands.{begins_command};
 ghost use Rattle.st_batch.specs.Load.{LoadGives, LoadRefuses};
 ghost use Rattle.st_batch.specs.Outcome.{is_refused};
@@ -51,14 +52,10 @@ impl Session {
     pub fn open<F: Files>(alloc: Global, job: Job, files: &mut F) -> Result<Session, LineFault>
         ensures ok { IfOk result (λ session. LoadGives (F.map files.old) [] job.setup (Ok session)) }
         ensures err { IfErr result (LoadRefuses (F.map files.old) [] job.setup) }
-        ensures cause { IfErr result (λ fault. IsLoadCaused fault
-            (record { misses = F.misses files.old; faults = F.faults files.old; taken = F.taken files.old })
-            (record { misses = F.misses files.new; faults = F.faults files.new; taken = F.taken files.new })) }
+        ensures cause { IfErr result (λ fault. IsLoadCaused fault (F.counts files.old) (F.counts files.new)) }
         ensures closed { F.opened files.new ≡ false }
         ensures map { F.map files.new ≡ F.map files.old }
-        ensures misses_later { F.misses files.old ≤ F.misses files.new }
-        ensures faults_later { F.faults files.old ≤ F.faults files.new }
-        ensures taken_later { RoseBy 0 (F.taken files.old) (F.taken files.new) }
+        ensures later { AreLater (F.counts files.old) (F.counts files.new) }
     {
         Session::begin(alloc, job.setup.as_slice(), files)
     }
@@ -71,14 +68,10 @@ impl Session {
     ) -> Result<Session, LineFault>
         ensures ok { IfOk result (λ session. LoadGives (F.map files.old) [] setup.now (Ok session)) }
         ensures err { IfErr result (LoadRefuses (F.map files.old) [] setup.now) }
-        ensures cause { IfErr result (λ fault. IsLoadCaused fault
-            (record { misses = F.misses files.old; faults = F.faults files.old; taken = F.taken files.old })
-            (record { misses = F.misses files.new; faults = F.faults files.new; taken = F.taken files.new })) }
+        ensures cause { IfErr result (λ fault. IsLoadCaused fault (F.counts files.old) (F.counts files.new)) }
         ensures closed { F.opened files.new ≡ false }
         ensures map { F.map files.new ≡ F.map files.old }
-        ensures misses_later { F.misses files.old ≤ F.misses files.new }
-        ensures faults_later { F.faults files.old ≤ F.faults files.new }
-        ensures taken_later { RoseBy 0 (F.taken files.old) (F.taken files.new) }
+        ensures later { AreLater (F.counts files.old) (F.counts files.new) }
     {
         let mut pool = Pool::new(alloc);
         load_file(alloc, &mut pool, setup, files)?;
@@ -103,14 +96,10 @@ impl Session {
         ensures answered { IfOk result (λ answer. MayAnswer (F.map files.old) self.old line.now answer self.new) }
         ensures refused { IfOk result (λ answer. is_refused answer ≡ true → self.new ≡ self.old) }
         ensures err { OnErr result (self.new ≡ self.old) }
-        ensures cause { IfOk result (λ answer. IsAnswerCaused answer
-            (record { misses = F.misses files.old; faults = F.faults files.old; taken = F.taken files.old })
-            (record { misses = F.misses files.new; faults = F.faults files.new; taken = F.taken files.new })) }
+        ensures cause { IfOk result (λ answer. IsAnswerCaused answer (F.counts files.old) (F.counts files.new)) }
         ensures closed { F.opened files.old ≡ false → F.opened files.new ≡ false }
         ensures map { F.map files.new ≡ F.map files.old }
-        ensures misses_later { F.misses files.old ≤ F.misses files.new }
-        ensures faults_later { F.faults files.old ≤ F.faults files.new }
-        ensures taken_later { RoseBy 0 (F.taken files.old) (F.taken files.new) }
+        ensures later { AreLater (F.counts files.old) (F.counts files.new) }
     {
         if is_command(trim(line)) {
             self.command_line(line, files)
@@ -131,14 +120,10 @@ impl Session {
         ensures answered { IfOk result (λ answer. MayAnswer (F.map files.old) self.old line.now answer self.new) }
         ensures refused { IfOk result (λ answer. is_refused answer ≡ true → self.new ≡ self.old) }
         ensures err { OnErr result (self.new ≡ self.old) }
-        ensures cause { IfOk result (λ answer. IsAnswerCaused answer
-            (record { misses = F.misses files.old; faults = F.faults files.old; taken = F.taken files.old })
-            (record { misses = F.misses files.new; faults = F.faults files.new; taken = F.taken files.new })) }
+        ensures cause { IfOk result (λ answer. IsAnswerCaused answer (F.counts files.old) (F.counts files.new)) }
         ensures closed { F.opened files.old ≡ false → F.opened files.new ≡ false }
         ensures map { F.map files.new ≡ F.map files.old }
-        ensures misses_later { F.misses files.old ≤ F.misses files.new }
-        ensures faults_later { F.faults files.old ≤ F.faults files.new }
-        ensures taken_later { RoseBy 0 (F.taken files.old) (F.taken files.new) }
+        ensures later { AreLater (F.counts files.old) (F.counts files.new) }
     {
         answer_command_line(self.alloc, &mut self.pool, line, files)
     }
@@ -181,14 +166,10 @@ fn answer_command_line<F: Files>(
     ensures answered { IfOk result (λ answer. MayAnswer (F.map files.old) pool.old line.now answer pool.new) }
     ensures refused { IfOk result (λ answer. is_refused answer ≡ true → pool.new ≡ pool.old) }
     ensures err { OnErr result (pool.new ≡ pool.old) }
-    ensures cause { IfOk result (λ answer. IsAnswerCaused answer
-        (record { misses = F.misses files.old; faults = F.faults files.old; taken = F.taken files.old })
-        (record { misses = F.misses files.new; faults = F.faults files.new; taken = F.taken files.new })) }
+    ensures cause { IfOk result (λ answer. IsAnswerCaused answer (F.counts files.old) (F.counts files.new)) }
     ensures closed { F.opened files.old ≡ false → F.opened files.new ≡ false }
     ensures map { F.map files.new ≡ F.map files.old }
-    ensures misses_later { F.misses files.old ≤ F.misses files.new }
-    ensures faults_later { F.faults files.old ≤ F.faults files.new }
-    ensures taken_later { RoseBy 0 (F.taken files.old) (F.taken files.new) }
+    ensures later { AreLater (F.counts files.old) (F.counts files.new) }
 {
     if line.len() > MAX_LINE {
         return Ok(Answer::Refused(LineFault::LineTooLong));
@@ -207,14 +188,10 @@ fn answer_command<F: Files>(
     ensures answered { IfOk result (λ answer. CommandAnswers (F.map files.old) pool.old text.now answer pool.new) }
     ensures refused { IfOk result (λ answer. is_refused answer ≡ true → pool.new ≡ pool.old) }
     ensures err { OnErr result (pool.new ≡ pool.old) }
-    ensures cause { IfOk result (λ answer. IsAnswerCaused answer
-        (record { misses = F.misses files.old; faults = F.faults files.old; taken = F.taken files.old })
-        (record { misses = F.misses files.new; faults = F.faults files.new; taken = F.taken files.new })) }
+    ensures cause { IfOk result (λ answer. IsAnswerCaused answer (F.counts files.old) (F.counts files.new)) }
     ensures closed { F.opened files.old ≡ false → F.opened files.new ≡ false }
     ensures map { F.map files.new ≡ F.map files.old }
-    ensures misses_later { F.misses files.old ≤ F.misses files.new }
-    ensures faults_later { F.faults files.old ≤ F.faults files.new }
-    ensures taken_later { RoseBy 0 (F.taken files.old) (F.taken files.new) }
+    ensures later { AreLater (F.counts files.old) (F.counts files.new) }
 {
     if let Some(name) = name_behind(b"$load", text) {
         return load_named(alloc, pool, name, files);
@@ -238,14 +215,10 @@ fn load_named<F: Files>(
     ensures answered { IfOk result (λ answer. LoadAnswers (F.map files.old) pool.old name.now answer pool.new) }
     ensures refused { IfOk result (λ answer. is_refused answer ≡ true → pool.new ≡ pool.old) }
     ensures err { OnErr result (pool.new ≡ pool.old) }
-    ensures cause { IfOk result (λ answer. IsAnswerCaused answer
-        (record { misses = F.misses files.old; faults = F.faults files.old; taken = F.taken files.old })
-        (record { misses = F.misses files.new; faults = F.faults files.new; taken = F.taken files.new })) }
+    ensures cause { IfOk result (λ answer. IsAnswerCaused answer (F.counts files.old) (F.counts files.new)) }
     ensures closed { F.opened files.old ≡ false → F.opened files.new ≡ false }
     ensures map { F.map files.new ≡ F.map files.old }
-    ensures misses_later { F.misses files.old ≤ F.misses files.new }
-    ensures faults_later { F.faults files.old ≤ F.faults files.new }
-    ensures taken_later { RoseBy 0 (F.taken files.old) (F.taken files.new) }
+    ensures later { AreLater (F.counts files.old) (F.counts files.new) }
 {
     let answer = said(alloc, b"loaded")?;
     match load_file(alloc, pool, name, files) {

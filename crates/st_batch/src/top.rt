@@ -3,7 +3,7 @@
 ghost use Rattle.std.specs.Prelude.{◌≡◌, ◌≤◌, ◌+◌, ◌≢◌, ℕ, List, false, map, string_bytes, codes, [], ◌∷◌, ◌++◌};
 ghost use Rattle.std.specs.Io.KnownBytes.{IsAtEnd};
 ghost use Rattle.st_outside.specs.Causes.{Rose, RoseBeyond};
-ghost use Rattle.st_batch.specs.Causes.{FileCounts, IsStatusCaused, RoseBy};
+ghost use Rattle.st_batch.specs.Causes.{IsStatusCaused};
 ghost use Rattle.st_batch.specs.Outcome.{AnswersAll, Outside, Outcome, ReadsAll, ReadsNothing, Took};
 ghost use Rattle.st_batch.specs.Texts as texts;
 ghost use Rattle.st_batch.specs.Words.{AskFor, AskForNone};
@@ -37,17 +37,15 @@ pub fn run<F: Files, I: Source, O: Sink>(
         (record {
           files = F.map files.old;
           input = I.left input.old;
-          before = record { misses = F.misses files.old; faults = F.faults files.old; taken = F.taken files.old };
-          now = record { misses = F.misses files.new; faults = F.faults files.new; taken = F.taken files.new };
+          before = F.counts files.old;
+          now = F.counts files.new;
         }) (map string_bytes words.now) result) }
 
     // The words are refused exactly where they ask for no conversion, unless the line that says so was cut off.
     ensures words { WordsFit result (AskForNone (map string_bytes words.now)) }
 
     // What comes from outside has its cause, whether bytes are told or not.
-    ensures causes { IsStatusCaused result
-        (record { misses = F.misses files.old; faults = F.faults files.old; taken = F.taken files.old })
-        (record { misses = F.misses files.new; faults = F.faults files.new; taken = F.taken files.new }) }
+    ensures causes { IsStatusCaused result (F.counts files.old) (F.counts files.new) }
     ensures write_fault { result ≡ Status.WriteFault → Rose (O.faults out.old) (O.faults out.new) }
     ensures read_fault { result ≡ Status.ReadFault → Rose (I.faults input.old) (I.faults input.new) }
     ensures too_long { result ≡ Status.InputTooLong → RoseBeyond 67108864 (I.taken input.old) (I.taken input.new) }
@@ -85,13 +83,11 @@ fn run_job<F: Files, I: Source, O: Sink>(
         (record {
           files = F.map files.old;
           input = I.left input.old;
-          before = record { misses = F.misses files.old; faults = F.faults files.old; taken = F.taken files.old };
-          now = record { misses = F.misses files.new; faults = F.faults files.new; taken = F.taken files.new };
+          before = F.counts files.old;
+          now = F.counts files.new;
         }) words result) }
     ensures of_job { IsOfJob result }
-    ensures causes { IsStatusCaused result
-        (record { misses = F.misses files.old; faults = F.faults files.old; taken = F.taken files.old })
-        (record { misses = F.misses files.new; faults = F.faults files.new; taken = F.taken files.new }) }
+    ensures causes { IsStatusCaused result (F.counts files.old) (F.counts files.new) }
     ensures write_fault { result ≡ Status.WriteFault → Rose (O.faults out.old) (O.faults out.new) }
     ensures read_fault { result ≡ Status.ReadFault → Rose (I.faults input.old) (I.faults input.new) }
     ensures too_long { result ≡ Status.InputTooLong → RoseBeyond 67108864 (I.taken input.old) (I.taken input.new) }

@@ -19,9 +19,10 @@ pub record HasCause {T E : Type 0} (before now : ℕ) (result : Result T E) : Ty
   pub later : before ≤ now
   pub failed : OnErr result (Rose before now)
 
--- a read that gives n bytes raises the count by n, up to its type's last value, and an error leaves it as it was
-abbrev pub Counts : {E : Type 0} → ℕ → ℕ → Result ℕ E → Type 0
-Counts before now result = MatchResult result (λ n. now ≡ min (before + n) (2 ^ 64 - 1)) (λ _. now ≡ before)
+-- The count never falls. A read that gives n bytes raises it by n, up to its type's last value, and an error leaves it as it was.
+pub record Counts {E : Type 0} (before now : ℕ) (result : Result ℕ E) : Type 0 where
+  pub later : before ≤ now
+  pub counted : MatchResult result (λ n. now ≡ min (before + n) (2 ^ 64 - 1)) (λ _. now ≡ before)
 
 -- the count after a call that raises it by one exactly where the test holds
 abbrev pub raised_if : Bool → ℕ → ℕ
@@ -33,11 +34,11 @@ pub record FileCounts : Type 0 where
   pub faults : ℕ
   pub taken : ℕ
 
--- no count has fallen, but for one that stands at its type's last value
+-- no count has fallen
 pub record AreLater (before now : FileCounts) : Type 0 where
-  pub misses : RoseBy 0 before.misses now.misses
-  pub faults : RoseBy 0 before.faults now.faults
-  pub taken : RoseBy 0 before.taken now.taken
+  pub misses : before.misses ≤ now.misses
+  pub faults : before.faults ≤ now.faults
+  pub taken : before.taken ≤ now.taken
 
 -- nothing was counted yet
 abbrev pub no_counts : FileCounts

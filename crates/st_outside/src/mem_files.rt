@@ -80,12 +80,12 @@ impl Files for MemFiles {
         ensures opened { is_open self.new ≡ true }
         ensures bound { ReadsAtMost result buf.new }
         ensures bytes { ReadConsumes (left_of self.old) (left_of self.new) result buf.new }
-        ensures count { Counts (counts_of self.old).taken (counts_of self.new).taken result }
         ensures map { entries_of self.new ≡ entries_of self.old }
         ensures misses { (counts_of self.new).misses ≡ (counts_of self.old).misses }
+        ensures later { AreLater (counts_of self.old) (counts_of self.new) }
+        ensures count { Counts (counts_of self.old).taken (counts_of self.new).taken result }
         ensures listed { IsErr result ↔ IsTrue (fails_next (calls_of self.old)) }
         ensures counted { Counted (calls_of self.old) (calls_of self.new) }
-        ensures later { (calls_of self.old).failed ≤ (calls_of self.new).failed }
     {
         if self.calls.fails() {
             return Err(Failed);

@@ -91,9 +91,10 @@ impl Files for SafeFiles {
         ensures opened { is_open self.new ≡ true }
         ensures bound { ReadsAtMost result buf.new }
         ensures bytes { ReadConsumes (left_of self.old) (left_of self.new) result buf.new }
-        ensures count { Counts (counts_of self.old).taken (counts_of self.new).taken result }
         ensures map { entries_of self.new ≡ entries_of self.old }
         ensures misses { (counts_of self.new).misses ≡ (counts_of self.old).misses }
+        ensures later { AreLater (counts_of self.old) (counts_of self.new) }
+        ensures count { Counts (counts_of self.old).taken (counts_of self.new).taken result }
         ensures safe { IsOk result }
     {
         let Some(reading) = &mut self.reading else {

@@ -101,10 +101,11 @@ pub trait Files {
         ensures opened { opened self.new ≡ true }
         ensures bound { ReadsAtMost result buf.new }
         ensures bytes { ReadConsumes (left self.old) (left self.new) result buf.new }
-        ensures count { Counts (counts self.old).taken (counts self.new).taken result }
-        ensures cause { HasCause (counts self.old).faults (counts self.new).faults result }
         ensures map { map self.new ≡ map self.old }
-        ensures misses { (counts self.new).misses ≡ (counts self.old).misses };
+        ensures misses { (counts self.new).misses ≡ (counts self.old).misses }
+        ensures later { AreLater (counts self.old) (counts self.new) }
+        ensures count { Counts (counts self.old).taken (counts self.new).taken result }
+        ensures failed { OnErr result (Rose (counts self.old).faults (counts self.new).faults) };
 
     /// Closes the open file, if there is one.
     fn close(&mut self)

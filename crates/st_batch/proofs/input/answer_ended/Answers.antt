@@ -17,4 +17,4 @@ returns-clause-err g c =
 pub returns-in_err-gather_ended-clause-err : goal.returns-in_err-gather_ended-clause-err
 returns-in_err-gather_ended-clause-err g c =
     on-err c.from_residual.result
-    (halts-none _ _ _ _ _ (record { misses = c.in_err-gather_ended.ensures.misses_later; faults = c.in_err-gather_ended.ensures.faults_later; taken = c.in_err-gather_ended.ensures.taken_later }))
+    (halts-none _ _ _ _ _ c.in_err-gather_ended.ensures.later)

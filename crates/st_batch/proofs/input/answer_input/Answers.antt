@@ -1,5 +1,6 @@
 use Rattle.std.proofs.Common.{◌+◌, ◌<◌, length, take, rules, arith, refl}
 use Rattle.st_batch.proofs.InputLaws.{input-none, input-next, input-fault, input-long, input-stopped, input-ends}
+use Rattle.st_batch.proofs.ProgressLaws.{later-join, later-same}
 use Rattle.st_batch.proofs.input.answer_input.Goals as goal
 
 pub loop-read-init : goal.loop-read-init
@@ -13,9 +14,7 @@ loop-read-init g c = record {
   output = omega arith;
   closed = λ e. e;
   map = refl;
-  misses = omega arith;
-  faults = omega arith;
-  bytes = omega arith;
+  counts = later-same _;
 }
 
 pub returns-in-Err-clause-told : goal.returns-in-Err-clause-told
@@ -40,13 +39,11 @@ loop-read-preserved g c = record {
   come = input-next _ _ _ _ _ _ _ _ _ _ _ _ _ c.loop-read.invariant.map (omega (arith, c.in-Ok.ensures.bound.1)) c.loop-read.invariant.come c.in-Ok.ensures.bytes.0 c.in_default.ensures.ok;
   few = omega (arith, c.if-count-read.false, c.loop-read.invariant.few);
   room = omega (arith, c.read.auto.buf, c.loop-read.invariant.room);
-  taken = omega (arith, c.in-Ok.ensures.count, c.loop-read.invariant.taken);
-  most = omega (arith, c.in-Ok.ensures.count, c.loop-read.invariant.most);
+  taken = omega (arith, c.in-Ok.ensures.count.counted, c.loop-read.invariant.taken);
+  most = omega (arith, c.in-Ok.ensures.count.counted, c.loop-read.invariant.most);
   input = omega (arith, c.in-Ok.ensures.cause.later);
-  output = omega (arith, c.in_default.ensures.later);
+  output = omega (arith, c.in_default.ensures.output);
   closed = λ e. c.in_default.ensures.closed (c.loop-read.invariant.closed e);
   map = search rules;
-  misses = omega arith;
-  faults = omega arith;
-  bytes = omega arith;
+  counts = later-join _ _ _ c.loop-read.invariant.counts c.in_default.ensures.later;
 }

@@ -1,10 +1,9 @@
-use Rattle.std.proofs.Common.{arith}
-use Rattle.st_batch.proofs.ProgressLaws.{advances-one, finishes-written, within-none}
+use Rattle.st_batch.proofs.ProgressLaws.{advances-one, finishes-written, later-same, within-none}
 use Rattle.st_batch.proofs.input.answer_one.Goals as goal
 
 pub returns-in-Ok-clause-finished : goal.returns-in-Ok-clause-finished
 returns-in-Ok-clause-finished g c =
-    finishes-written _ _ _ _ _ _ _ (advances-one _ _ _ _ _ _ _ c.in-Ok.ensures.ok) (record { misses = omega arith; faults = omega arith; taken = omega arith }) c.finish.ensures.finished
+    finishes-written _ _ _ _ _ _ _ (advances-one _ _ _ _ _ _ _ c.in-Ok.ensures.ok) (later-same _) c.finish.ensures.finished
 
 pub returns-in-Err-clause-finished : goal.returns-in-Err-clause-finished
-returns-in-Err-clause-finished g c = within-none _ _ _ _ (record { misses = c.in-Err.ensures.misses_later; faults = c.in-Err.ensures.faults_later; taken = c.in-Err.ensures.taken_later })
+returns-in-Err-clause-finished g c = within-none _ _ _ _ c.in-Err.ensures.later

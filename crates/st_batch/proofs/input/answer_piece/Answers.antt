@@ -1,6 +1,6 @@
 use Rattle.std.proofs.Common.{rules, arith}
 use Rattle.std.proofs.lemmas.Result.{on_ok_weaker, on_err_weaker}
-use Rattle.st_batch.proofs.ProgressLaws.{writes-ok}
+use Rattle.st_batch.proofs.ProgressLaws.{later-join, later-same, writes-ok}
 use Rattle.st_batch.proofs.ReadLaws.{part-none, part-next, part-last, halts-next, halts-last, halts-behind, on-err}
 use Rattle.st_batch.proofs.input.answer_piece.Goals as goal
 
@@ -10,9 +10,7 @@ loop-end-init g c = record {
   output = omega arith;
   closed = λ e. e;
   map = search rules;
-  misses = omega arith;
-  faults = omega arith;
-  bytes = omega arith;
+  counts = later-same _;
 }
 
 pub loop-end-preserved : goal.loop-end-preserved
@@ -21,9 +19,7 @@ loop-end-preserved g c = record {
   output = omega arith;
   closed = λ e. c.in_ok-answer_ended.ensures.closed (c.loop-end.invariant.closed e);
   map = search rules;
-  misses = omega arith;
-  faults = omega arith;
-  bytes = omega arith;
+  counts = later-join _ _ _ c.loop-end.invariant.counts c.in_ok-answer_ended.ensures.later;
 }
 
 pub returns-in_err-answer_ended-clause-err : goal.returns-in_err-answer_ended-clause-err

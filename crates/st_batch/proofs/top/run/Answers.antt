@@ -1,5 +1,6 @@
-use Rattle.std.proofs.Common.{Err, map, string_bytes, ap, arith}
-use Rattle.st_batch.specs.Causes.{FileCounts}
+use Rattle.std.proofs.Common.{Err, map, string_bytes, ap}
+use Rattle.st_outside.specs.Causes.{FileCounts}
+use Rattle.st_batch.proofs.ProgressLaws.{later-same}
 use Rattle.st_batch.proofs.RunLaws.{outside, words-outcome, nothing-of-words, no-input, reads-all, job-fits}
 use Rattle.st_batch.proofs.WordsLaws.{one-job, told-job}
 use Rattle.st_batch.proofs.top.run.Goals as goal
@@ -30,13 +31,13 @@ returns-in-Ok g c =
 
 pub returns-in-Err-NotBuilt-clause-told : goal.returns-in-Err-NotBuilt-clause-told
 returns-in-Err-NotBuilt-clause-told g c =
-    let still : FileCounts = record { misses = g.F.Files.misses c.args.files.now; faults = g.F.Files.faults c.args.files.now; taken = g.F.Files.taken c.args.files.now } in
+    let still : FileCounts = g.F.Files.counts c.args.files.now in
     words-outcome (outside (g.F.Files.map c.args.files.now) (g.I.Source.left c.args.input.now) still still)
     (map string_bytes c.args.words.now) c.deliver.result (g.O.Sink.taken c.args.out.now) (g.O.Sink.taken c.deliver.new.out)
     (c.in-Err-NotBuilt.ensures.not_built (ap Err c.in-Err-NotBuilt.field-0-is)) c.deliver.ensures.delivers
 
 pub returns-in-Err-OutOfMemory-clause-told : goal.returns-in-Err-OutOfMemory-clause-told
 returns-in-Err-OutOfMemory-clause-told g c =
-    let still : FileCounts = record { misses = g.F.Files.misses c.args.files.now; faults = g.F.Files.faults c.args.files.now; taken = g.F.Files.taken c.args.files.now } in
+    let still : FileCounts = g.F.Files.counts c.args.files.now in
     nothing-of-words (outside (g.F.Files.map c.args.files.now) (g.I.Source.left c.args.input.now) still still)
-    (map string_bytes c.args.words.now) (g.O.Sink.taken c.args.out.now) (told-job (map string_bytes c.args.words.now)) (record { misses = omega arith; faults = omega arith; taken = omega arith })
+    (map string_bytes c.args.words.now) (g.O.Sink.taken c.args.out.now) (told-job (map string_bytes c.args.words.now)) (later-same _)

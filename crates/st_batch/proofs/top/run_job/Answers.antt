@@ -1,5 +1,5 @@
 use Rattle.std.proofs.Common.{refl, Ok, ◌∙◌, List, [], ℕ, subst}
-use Rattle.st_batch.specs.Causes.{FileCounts}
+use Rattle.st_outside.specs.Causes.{FileCounts}
 use Rattle.st_batch.specs.Load.{LoadGives, LoadRefuses}
 use Rattle.st_batch.proofs.RunLaws.{lines-outcome, nothing-of-job, setup-outcome, setup-counted, setup-caused, load-refused, delivered-caused, delivered-of-job, setup_line, outside, lines-caused, lines-of-job, lines-no-input, delivered-of-setup, not-read, not-whole}
 use Rattle.st_batch.specs.declared.status.Status.TheVariants.{ReadFault, InputTooLong}
@@ -7,15 +7,15 @@ use Rattle.st_batch.proofs.top.run_job.Goals as goal
 
 pub returns-in-Ok : goal.returns-in-Ok
 returns-in-Ok g c =
-    let before : FileCounts = record { misses = g.F.Files.misses c.args.files.now; faults = g.F.Files.faults c.args.files.now; taken = g.F.Files.taken c.args.files.now } in
-    let mid : FileCounts = record { misses = g.F.Files.misses c.begin.new.files; faults = g.F.Files.faults c.begin.new.files; taken = g.F.Files.taken c.begin.new.files } in
-    let now : FileCounts = record { misses = g.F.Files.misses c.answer_lines.new.files; faults = g.F.Files.faults c.answer_lines.new.files; taken = g.F.Files.taken c.answer_lines.new.files } in
+    let before : FileCounts = g.F.Files.counts c.args.files.now in
+    let mid : FileCounts = g.F.Files.counts c.begin.new.files in
+    let now : FileCounts = g.F.Files.counts c.answer_lines.new.files in
     let status = c.answer_lines.result in
     let of = c.answer_lines.ensures.of_lines in
     let P : List ℕ → Type 0 = λ name. LoadGives (g.F.Files.map c.args.files.now) [] name (Ok c.in-Ok.session) in
     record {
       told = λ words asked. lines-outcome (g.F.Files.map c.args.files.now) (g.F.Files.map c.begin.new.files) (g.I.Source.left c.args.input.now) (g.O.Sink.taken c.args.out.now) (g.O.Sink.taken c.answer_lines.new.out)
-          before mid now words c.args.job.now c.in-Ok.session status c.in-Ok.ensures.map (record { misses = c.in-Ok.ensures.misses_later; faults = c.in-Ok.ensures.faults_later; taken = c.in-Ok.ensures.taken_later }) asked (subst P c.as_slice.ensures c.in-Ok.ensures.ok) c.answer_lines.ensures.told;
+          before mid now words c.args.job.now c.in-Ok.session status c.in-Ok.ensures.map c.in-Ok.ensures.later asked (subst P c.as_slice.ensures c.in-Ok.ensures.ok) c.answer_lines.ensures.told;
       of_job = lines-of-job status of;
       causes = lines-caused status before now of;
       write_fault = c.answer_lines.ensures.write_fault;
@@ -33,14 +33,14 @@ returns-in-Ok g c =
 pub returns-in-Err-OutOfMemory-clause-told : goal.returns-in-Err-OutOfMemory-clause-told
 returns-in-Err-OutOfMemory-clause-told g c = λ words asked.
     nothing-of-job (outside (g.F.Files.map c.args.files.now) (g.I.Source.left c.args.input.now)
-    (record { misses = g.F.Files.misses c.args.files.now; faults = g.F.Files.faults c.args.files.now; taken = g.F.Files.taken c.args.files.now })
-    (record { misses = g.F.Files.misses c.begin.new.files; faults = g.F.Files.faults c.begin.new.files; taken = g.F.Files.taken c.begin.new.files }))
-    words c.args.job.now (g.O.Sink.taken c.args.out.now) asked (record { misses = c.in-Err-OutOfMemory.ensures.misses_later; faults = c.in-Err-OutOfMemory.ensures.faults_later; taken = c.in-Err-OutOfMemory.ensures.taken_later })
+    (g.F.Files.counts c.args.files.now)
+    (g.F.Files.counts c.begin.new.files))
+    words c.args.job.now (g.O.Sink.taken c.args.out.now) asked c.in-Err-OutOfMemory.ensures.later
 
 pub returns-in-Err : goal.returns-in-Err
 returns-in-Err g c =
-    let before : FileCounts = record { misses = g.F.Files.misses c.args.files.now; faults = g.F.Files.faults c.args.files.now; taken = g.F.Files.taken c.args.files.now } in
-    let now : FileCounts = record { misses = g.F.Files.misses c.begin.new.files; faults = g.F.Files.faults c.begin.new.files; taken = g.F.Files.taken c.begin.new.files } in
+    let before : FileCounts = g.F.Files.counts c.args.files.now in
+    let now : FileCounts = g.F.Files.counts c.begin.new.files in
     let o = outside (g.F.Files.map c.args.files.now) (g.I.Source.left c.args.input.now) before now in
     let fault = c.in-Err.fault in
     let not = c.refuse_setup.ensures.not_memory in
@@ -48,7 +48,7 @@ returns-in-Err g c =
     let of = delivered-of-setup (setup_line fault) fault c.refuse_setup.result (g.O.Sink.taken c.args.out.now) (g.O.Sink.taken c.refuse_setup.new.out) d in
     let P : List ℕ → Type 0 = λ name. LoadRefuses (g.F.Files.map c.args.files.now) [] name fault in
     let given = load-refused (g.F.Files.map c.args.files.now) [] c.args.job.now.setup fault not (subst P c.as_slice.ensures c.in-Err.ensures.err) in
-    let counted = setup-counted fault before now not (record { misses = c.in-Err.ensures.misses_later; faults = c.in-Err.ensures.faults_later; taken = c.in-Err.ensures.taken_later }) c.in-Err.ensures.cause in
+    let counted = setup-counted fault before now not c.in-Err.ensures.later c.in-Err.ensures.cause in
     record {
       told = λ words asked. setup-outcome o words c.args.job.now fault c.refuse_setup.result (g.O.Sink.taken c.args.out.now) (g.O.Sink.taken c.refuse_setup.new.out) asked given counted d;
       of_job = delivered-of-job (setup_line fault) fault c.refuse_setup.result (g.O.Sink.taken c.args.out.now) (g.O.Sink.taken c.refuse_setup.new.out) d;
