@@ -160,7 +160,7 @@ fn lines_cut_by_the_reads(rt: HostRuntime) -> Result<(), Fail> {
     Ok(())
 }
 
-/// A kernel that is loaded for the second line, the first being ended and the last not.
+/// A kernel that is loaded for the second line.
 const TWO_LINES: &[u8] = b"$load short.tls\n2017-06-01T00:00:00";
 
 /// The status and the output of the two lines, where one call of the files fails.
@@ -198,14 +198,26 @@ fn faulty_loads(rt: HostRuntime) -> Result<(), Fail> {
     Ok(())
 }
 
-/// How the two lines end where a call of the input or of the output fails: the call of each, the status, and what was
+/// A kernel that is loaded for some time. The last line isn't ended, so its answer is written by itself.
+const FIVE_LINES: &[u8] =
+    b"2017-06-01T00:00:00\n$load short.tls\n2017-06-01T00:00:00\n$unload short.tls\n2017-06-01T00:00:00";
+
+/// The answers to the first four of these lines.
+const FOUR_ANSWERS: &str = "549547237.000000\nloaded\n549547236.000000\nunloaded\n";
+
+/// How the five lines end where a call of the input or of the output fails: the call of each, the status, and what was
 /// written.
 const FAULTS: [(u32, u32, Status, &str); 5] = [
-    (0, 0, Status::Done, "loaded\n549547236.000000\n"),
+    (
+        0,
+        0,
+        Status::Done,
+        "549547237.000000\nloaded\n549547236.000000\nunloaded\n549547237.000000\n",
+    ),
     (1, 0, Status::ReadFault, ""),
-    (2, 0, Status::ReadFault, "loaded\n"),
+    (2, 0, Status::ReadFault, FOUR_ANSWERS),
     (0, 1, Status::WriteFault, ""),
-    (0, 2, Status::WriteFault, "loaded\n"),
+    (0, 2, Status::WriteFault, FOUR_ANSWERS),
 ];
 
 #[test]
@@ -215,7 +227,7 @@ fn faults_of_the_outside(rt: HostRuntime) -> Result<(), Fail> {
     for (read_call, write_call, wanted, output) in FAULTS {
         let mut kernels = SafeFiles::new(folder(alloc)?);
         let failing = Vec::from_slice(alloc, &[read_call])?;
-        let mut input = MemSource::new(Vec::from_slice(alloc, TWO_LINES)?, failing);
+        let mut input = MemSource::new(Vec::from_slice(alloc, FIVE_LINES)?, failing);
         let mut out = MemSink::new(alloc, Vec::from_slice(alloc, &[write_call])?);
         let status = run(alloc, words.as_slice(), &mut kernels, &mut input, &mut out);
         assert_eq!(rt; status, wanted, "{read_call} {write_call}");
