@@ -42,6 +42,13 @@ EveryLineHasAnswer =
     (files : Option Entries) (loaded : List Kernel) (line : List ℕ)
     → (answer : Answer) × ((after : List Kernel) × MayAnswer files loaded line answer after × (answer ≢ Refused FileFault))
 
+-- By files that tell their bytes a line has one answer, and one loaded list after it, where it names no fault of the files.
+abbrev pub OneAnswer : Type 0
+OneAnswer =
+    (files : Entries) (loaded after next : List Kernel) (line : List ℕ) (answer other : Answer)
+    → MayAnswer (Some files) loaded line answer after → MayAnswer (Some files) loaded line other next
+    → answer ≢ Refused FileFault → other ≢ Refused FileFault → (answer ≡ other) × (after ≡ next)
+
 -- Answers to some first lines go on to answers to all lines, and those to the later lines name no fault of the files.
 abbrev pub EveryBeginningGoesOn : Type 0
 EveryBeginningGoesOn =

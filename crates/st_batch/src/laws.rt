@@ -1,6 +1,6 @@
 //! Laws of the definitions by which `run` is told. Each function does nothing; its contract is the law.
 
-ghost use Rattle.st_batch.specs.Laws.{OneOutput, EveryLineHasAnswer, EveryBeginningGoesOn, GoodRunIsAnswered};
+ghost use Rattle.st_batch.specs.Laws.{EveryBeginningGoesOn, EveryLineHasAnswer, GoodRunIsAnswered, OneAnswer, OneOutput};
 
 /// Where the files and the input tell their bytes and the files had no fault there is one whole output, so that `run`,
 /// where it isn't cut off, is then a function of the words, the files and the input.
@@ -13,14 +13,22 @@ pub fn every_line_has_an_answer()
     ensures { EveryLineHasAnswer }
 {}
 
+/// Where the files tell their bytes a line has one answer, and one loaded list after it, but for an answer that names a
+/// fault of the files. So a text that stands for a time is converted wherever there is a table, and a kernel within the
+/// limits is loaded.
+pub fn one_answer()
+    ensures { OneAnswer }
+{}
+
 /// Answers to some first lines go on to answers to all lines, so that what was written of a run that was cut off begins
 /// such answers.
 pub fn every_beginning_goes_on()
     ensures { EveryBeginningGoesOn }
 {}
 
-/// Where the files and the input tell their bytes and the files had no fault, words that ask for a conversion, a setup that
-/// loads and an input that isn't too long are answered: only a fault of the input or the output, or want of memory, cuts the run off.
+/// Where the files and the input tell their bytes and the files had no fault, words that ask for a conversion, a setup
+/// that loads and an input that isn't too long are answered: only a fault of the input or the output, or want of memory,
+/// cuts the run off.
 pub fn good_run_is_answered()
     ensures { GoodRunIsAnswered }
 {}
