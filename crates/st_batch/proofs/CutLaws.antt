@@ -7,7 +7,8 @@ use Rattle.std.proofs.lemmas.List.Folds.{list_any-append}
 use borrow.Author.Tests.{ltb-true, ltb-false, lt-ltb, le-ltb, eqb-true}
 use Rattle.st_text.specs.Lines.{lines_of, without_cr}
 use Rattle.st_text.proofs.Splits.{raw_lines-at, raw_lines-none, lines_of-first, lines_of-nil}
-use Rattle.st_batch.specs.Progress.{HasNoFeed, CutsAtFeed, Cuts, EndsLines}
+use Rattle.st_batch.specs.Outcome.{HasNoFeed}
+use Rattle.st_batch.specs.Progress.{CutsAtFeed, Cuts, EndsLines}
 
 -- two texts without a line feed have none together
 pub joined_no_feed : (a b : List ℕ) → HasNoFeed a → HasNoFeed b → HasNoFeed (a ++ b)

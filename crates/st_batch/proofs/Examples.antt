@@ -7,8 +7,9 @@ use Rattle.st_batch.specs.declared.answer.Answer.TheVariants.{Text, Refused}
 use Rattle.st_batch.specs.declared.fault.LineFault.TheVariants.{NoFile, NotLoaded}
 use Rattle.st_batch.specs.declared.status.Status.TheVariants.{SomeRefused}
 use Rattle.st_batch.specs.Commands.{IsLoad, IsUnload}
-use Rattle.st_batch.specs.Outcome.{line_of, status_of}
+use Rattle.st_batch.specs.Outcome.{HaveEnded, line_of, status_of}
 use Rattle.st_batch.specs.Session.{RunsTo}
+use Rattle.st_batch.proofs.CutLaws.{cuts-begun, cuts-join, cuts-line}
 
 abbrev kernel : List ℕ → Kernel
 kernel name = record { name = name; assignments = [] }
@@ -64,3 +65,13 @@ written = refl
 
 pub ended : status_of (Text (codes "cleared") ∷ Refused NoFile ∷ []) ≡ SomeRefused
 ended = refl
+
+-- one line has ended in what was read, and `b` has begun the next one
+pub read_before : HaveEnded (Some (codes "a\r\nbc\n")) (Some (codes "c\n")) (codes "a" ∷ [])
+read_before = record {
+  read = codes "a\r\nb";
+  begun = codes "b";
+  consumed = refl;
+  unended = refl;
+  first = cuts-join [] [] (codes "b") (codes "a\r\n") (codes "b") (codes "a" ∷ []) [] (cuts-line [] (codes "a\r") refl refl) (cuts-begun [] (codes "b"));
+}

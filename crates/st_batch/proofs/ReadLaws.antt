@@ -6,7 +6,8 @@ use Rattle.st_text.proofs.Splits.{lines_of-nil}
 use Rattle.st_batch.specs.declared.answering.Answering.{Answering}
 use Rattle.st_batch.specs.declared.status.Status.{Status}
 use Rattle.st_outside.specs.Causes.{AreLater, FileCounts}
-use Rattle.st_batch.specs.Progress.{Moment, AnswersOne, Writes, Finishes, FinishesWriting, HasNoFeed, CutsAtFeed, Reads, Halts, ReadsPart}
+use Rattle.st_batch.specs.Outcome.{HasNoFeed}
+use Rattle.st_batch.specs.Progress.{Moment, AnswersOne, Writes, Finishes, FinishesWriting, CutsAtFeed, Reads, Halts, ReadsPart}
 use Rattle.st_batch.specs.Taken.{TakesPrefix}
 use Rattle.st_batch.proofs.CutLaws.{joined_no_feed, lines-begun, cuts-none, cuts-join, cuts-begun, cuts-line, ends-cut, ends-none, ends-longer, ends-join}
 use Rattle.st_batch.proofs.ProgressLaws.{advances-none, advances-join, advances-one, advances-writes, stops-cut, stops-here, stops-after, finishes-written, later-same}

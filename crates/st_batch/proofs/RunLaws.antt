@@ -17,8 +17,8 @@ use Rattle.st_batch.specs.declared.status.Status.TheVariants.{Done, SomeRefused,
 use Rattle.st_outside.specs.Causes.{AreLater, FileCounts, RoseBy}
 use Rattle.st_batch.specs.Causes.{AreCounted, is_file_fault, IsCaused, IsLoadCaused, IsStatusCaused}
 use Rattle.st_batch.specs.Load.{LoadGives, LoadRefuses}
-use Rattle.st_batch.specs.Outcome.{Outside, Answered, BeginsAnswers, BeginsAllowed, Outcome, AnswersAll, Took, ReadsAll, ReadsNothing}
-use Rattle.st_batch.specs.Progress.{AllAnswered, SomeAnswered, LinesEnd, IsOfLines}
+use Rattle.st_batch.specs.Outcome.{Outside, Answered, AnswersRead, BeginsAnswers, BeginsAllowed, Outcome, AnswersAll, Took, ReadsAll, ReadsNothing}
+use Rattle.st_batch.specs.Progress.{AllAnswered, ReadAnswered, SomeAnswered, LinesEnd, IsOfLines}
 use Rattle.st_batch.specs.Texts.{refusal_text}
 use Rattle.st_batch.specs.Words.{AskFor, AskForNone, AreLines}
 use Rattle.st_batch.specs.Written.{Delivers, ReadsNone, IsCut, IsOfJob, WordsFit}
@@ -29,17 +29,17 @@ pub told-as : (before after : Option (List ℕ)) (P Q : List ℕ → Type 0) →
 told-as before after P Q f (bytes, appends, p) = (bytes, appends, f bytes p)
 
 -- the files, the input and the counts, as a run's contract puts them together
-abbrev pub outside : Option Entries → Option (List ℕ) → FileCounts → FileCounts → Outside
-outside files input before now = record { files = files; input = input; before = before; now = now }
+abbrev pub outside : Option Entries → Option (List ℕ) → Option (List ℕ) → FileCounts → FileCounts → Outside
+outside files input left before now = record { files = files; input = input; left = left; before = before; now = now }
 
 -- counts that rose from some moment on rose from an earlier one
 pub counted-from : (before mid now : FileCounts) (answers : List Answer) → AreLater before mid → AreCounted mid now answers → AreCounted before now answers
 counted-from before mid now answers l c = record { misses = omega (arith, c.misses, l.misses); faults = omega (arith, c.faults, l.faults); taken = omega (arith, c.taken, l.taken) }
 
-all-answered : (files : Option Entries) (input : Option (List ℕ)) (before mid now : FileCounts) (words : List (List ℕ)) (job : Job) (loaded : List Kernel) (status : Status) (bytes : List ℕ)
+all-answered : (files : Option Entries) (input left : Option (List ℕ)) (before mid now : FileCounts) (words : List (List ℕ)) (job : Job) (loaded : List Kernel) (status : Status) (bytes : List ℕ)
     → AreLater before mid → AskFor words job → LoadGives files [] job.setup (Ok loaded)
-    → AllAnswered (outside files input mid now) job.work loaded status bytes → Answered (outside files input before now) words status bytes
-all-answered files input before mid now words job loaded status bytes l asked setup h = record {
+    → AllAnswered (outside files input left mid now) job.work loaded status bytes → Answered (outside files input left before now) words status bytes
+all-answered files input left before mid now words job loaded status bytes l asked setup h = record {
   job = job;
   lines = h.lines;
   answers = h.answers;
@@ -51,10 +51,10 @@ all-answered files input before mid now words job loaded status bytes l asked se
   written = h.written;
 }
 
-some-answered : (files : Option Entries) (input : Option (List ℕ)) (before mid now : FileCounts) (words : List (List ℕ)) (job : Job) (loaded : List Kernel) (bytes : List ℕ)
+some-answered : (files : Option Entries) (input left : Option (List ℕ)) (before mid now : FileCounts) (words : List (List ℕ)) (job : Job) (loaded : List Kernel) (bytes : List ℕ)
     → AreLater before mid → AskFor words job → LoadGives files [] job.setup (Ok loaded)
-    → SomeAnswered (outside files input mid now) job.work loaded bytes → BeginsAnswers (outside files input before now) words bytes
-some-answered files input before mid now words job loaded bytes l asked setup h = record {
+    → SomeAnswered (outside files input left mid now) job.work loaded bytes → BeginsAnswers (outside files input left before now) words bytes
+some-answered files input left before mid now words job loaded bytes l asked setup h = record {
   job = job;
   lines = h.lines;
   more = h.more;
@@ -66,28 +66,43 @@ some-answered files input before mid now words job loaded bytes l asked setup h 
   written = h.written;
 }
 
-lines-end : (files : Option Entries) (input : Option (List ℕ)) (before mid now : FileCounts) (words : List (List ℕ)) (job : Job) (loaded : List Kernel) (status : Status) (bytes : List ℕ)
+read-answered : (files : Option Entries) (input left : Option (List ℕ)) (before mid now : FileCounts) (words : List (List ℕ)) (job : Job) (loaded : List Kernel) (bytes : List ℕ)
     → AreLater before mid → AskFor words job → LoadGives files [] job.setup (Ok loaded)
-    → LinesEnd (outside files input mid now) job.work loaded status bytes → Outcome (outside files input before now) words status bytes
-lines-end files input before mid now words job loaded Done bytes l asked setup h = all-answered files input before mid now words job loaded Done bytes l asked setup h
-lines-end files input before mid now words job loaded SomeRefused bytes l asked setup h = all-answered files input before mid now words job loaded SomeRefused bytes l asked setup h
-lines-end files input before mid now words job loaded (BadWords w) bytes l asked setup h = absurd h
-lines-end files input before mid now words job loaded (BadSetup c) bytes l asked setup h = absurd h
-lines-end files input before mid now words job loaded ReadFault bytes l asked setup h = some-answered files input before mid now words job loaded bytes l asked setup h
-lines-end files input before mid now words job loaded InputTooLong bytes l asked setup h =
-    (some-answered files input before mid now words job loaded bytes l asked setup h.0, h.1)
-lines-end files input before mid now words job loaded WriteFault bytes l asked setup h = inl (some-answered files input before mid now words job loaded bytes l asked setup h)
-lines-end files input before mid now words job loaded OutOfMemory bytes l asked setup h = inl (some-answered files input before mid now words job loaded bytes l asked setup h)
+    → ReadAnswered (outside files input left mid now) job.work loaded bytes → AnswersRead (outside files input left before now) words bytes
+read-answered files input left before mid now words job loaded bytes l asked setup h = record {
+  job = job;
+  lines = h.lines;
+  more = h.more;
+  answers = h.answers;
+  asked = asked;
+  are_lines = h.are_lines;
+  ended = h.ended;
+  session = record { loaded = loaded; after = h.after; setup = setup; answered = h.answered; counted = counted-from before mid now h.answers l h.counted };
+  written = h.written;
+}
+
+lines-end : (files : Option Entries) (input left : Option (List ℕ)) (before mid now : FileCounts) (words : List (List ℕ)) (job : Job) (loaded : List Kernel) (status : Status) (bytes : List ℕ)
+    → AreLater before mid → AskFor words job → LoadGives files [] job.setup (Ok loaded)
+    → LinesEnd (outside files input left mid now) job.work loaded status bytes → Outcome (outside files input left before now) words status bytes
+lines-end files input left before mid now words job loaded Done bytes l asked setup h = all-answered files input left before mid now words job loaded Done bytes l asked setup h
+lines-end files input left before mid now words job loaded SomeRefused bytes l asked setup h = all-answered files input left before mid now words job loaded SomeRefused bytes l asked setup h
+lines-end files input left before mid now words job loaded (BadWords w) bytes l asked setup h = absurd h
+lines-end files input left before mid now words job loaded (BadSetup c) bytes l asked setup h = absurd h
+lines-end files input left before mid now words job loaded ReadFault bytes l asked setup h = read-answered files input left before mid now words job loaded bytes l asked setup h
+lines-end files input left before mid now words job loaded InputTooLong bytes l asked setup h =
+    (some-answered files input left before mid now words job loaded bytes l asked setup h.0, h.1)
+lines-end files input left before mid now words job loaded WriteFault bytes l asked setup h = inl (some-answered files input left before mid now words job loaded bytes l asked setup h)
+lines-end files input left before mid now words job loaded OutOfMemory bytes l asked setup h = inl (some-answered files input left before mid now words job loaded bytes l asked setup h)
 
 -- a setup that was loaded, and the lines that were then answered
-pub lines-outcome : (files same : Option Entries) (input taken after : Option (List ℕ)) (before mid now : FileCounts) (words : List (List ℕ)) (job : Job) (loaded : List Kernel) (status : Status)
+pub lines-outcome : (files same : Option Entries) (input left taken after : Option (List ℕ)) (before mid now : FileCounts) (words : List (List ℕ)) (job : Job) (loaded : List Kernel) (status : Status)
     → same ≡ files → AreLater before mid → AskFor words job → LoadGives files [] job.setup (Ok loaded)
-    → Took taken after (LinesEnd (outside same input mid now) job.work loaded status)
-    → Took taken after (Outcome (outside files input before now) words status)
-lines-outcome files same input taken after before mid now words job loaded status e l asked setup h =
-    let P : Option Entries → Type 0 = λ fs. Took taken after (LinesEnd (outside fs input mid now) job.work loaded status) in
-    told-as taken after (LinesEnd (outside files input mid now) job.work loaded status) (Outcome (outside files input before now) words status)
-    (λ bytes. lines-end files input before mid now words job loaded status bytes l asked setup) (subst P e h)
+    → Took taken after (LinesEnd (outside same input left mid now) job.work loaded status)
+    → Took taken after (Outcome (outside files input left before now) words status)
+lines-outcome files same input left taken after before mid now words job loaded status e l asked setup h =
+    let P : Option Entries → Type 0 = λ fs. Took taken after (LinesEnd (outside fs input left mid now) job.work loaded status) in
+    told-as taken after (LinesEnd (outside files input left mid now) job.work loaded status) (Outcome (outside files input left before now) words status)
+    (λ bytes. lines-end files input left before mid now words job loaded status bytes l asked setup) (subst P e h)
 
 cut-begins : (o : Outside) (words : List (List ℕ)) (status : Status) (bytes : List ℕ) → IsCut status → BeginsAllowed o words bytes → Outcome o words status bytes
 cut-begins o words Done bytes cut b = absurd cut

@@ -1,10 +1,11 @@
 -- What a run may write and how it may end.
-use Rattle.std.specs.Prelude.{◌≡◌, count_by, ℕ, ◌<◌, Bool, true, false, if◌then◌else◌, Ok, Err, Option, Some, None, List, [], ◌∷◌, ◌++◌, length, codes, ◌⊎◌, ⊤}
-use Rattle.std.specs.Io.KnownBytes.{Appends}
+use Rattle.std.specs.Prelude.{◌≡◌, count_by, ℕ, ◌<◌, Bool, true, false, if◌then◌else◌, Ok, Err, Option, Some, None, List, [], ◌∷◌, ◌++◌, length, codes, ◌==◌, ◌⊎◌, ⊤}
+use Rattle.std.specs.Io.KnownBytes.{Appends, Consumes}
 use Rattle.std.specs.List.{flat_map, list_any}
 use Rattle.st_outside.specs.Causes.{FileCounts, RoseBy}
 use Rattle.st_outside.specs.Entries.{Entries}
 use Rattle.st_pool.specs.declared.kernel.Kernel.{Kernel}
+use Rattle.st_text.specs.Lines.{lines_of}
 use Rattle.st_batch.specs.declared.answer.Answer.{Answer}
 use Rattle.st_batch.specs.declared.answer.Answer.TheVariants.{Text, Refused}
 use Rattle.st_batch.specs.declared.fault.WordFault.TheVariants.{NotBuilt}
@@ -32,10 +33,12 @@ is_refused (Refused cause) = true
 abbrev pub status_of : List Answer → Status
 status_of answers = if list_any is_refused answers then SomeRefused else Done
 
--- what stands outside of a run: the files and the input, where they tell their bytes, and the counts before and after it
+-- what stands outside of a run: the files, the input and what the run left of it, where they tell their bytes, and the
+-- counts before and after it
 pub record Outside : Type 0 where
   pub files : Option Entries
   pub input : Option (List ℕ)
+  pub left : Option (List ℕ)
   pub before : FileCounts
   pub now : FileCounts
 
@@ -84,6 +87,31 @@ pub record BeginsAnswers (o : Outside) (words : List (List ℕ)) (bytes : List �
   pub session : Answers o job lines answers
   pub written : flat_map line_of answers ≡ bytes ++ rest
 
+-- the bytes have no line feed
+abbrev pub HasNoFeed : List ℕ → Type 0
+HasNoFeed bytes = list_any (λ b. b == 10) bytes ≡ false
+
+-- These lines have ended in what was read of the input: whatever follows it, they are the first lines, and the next one is
+-- that which had begun.
+pub record HaveEnded (input left : Option (List ℕ)) (lines : List (List ℕ)) : Type 0 where
+  pub read : List ℕ
+  pub begun : List ℕ
+  pub consumed : Consumes input left read
+  pub unended : HasNoFeed begun
+  pub first : (later : List ℕ) → lines_of (read ++ later) ≡ lines ++ lines_of (begun ++ later)
+
+-- the lines that had ended before a read failed were answered, and all their answers written
+pub record AnswersRead (o : Outside) (words : List (List ℕ)) (bytes : List ℕ) : Type 0 where
+  pub job : Job
+  pub lines : List (List ℕ)
+  pub more : List (List ℕ)
+  pub answers : List Answer
+  pub asked : AskFor words job
+  pub are_lines : AreLines job.work o.input (lines ++ more)
+  pub ended : HaveEnded o.input o.left lines
+  pub session : Answers o job lines answers
+  pub written : bytes ≡ flat_map line_of answers
+
 -- a beginning of the line was written that says why there are no answers
 abbrev pub BeginsRefusal : Outside → List (List ℕ) → List ℕ → Type 0
 BeginsRefusal o words bytes =
@@ -105,7 +133,7 @@ Outcome o words SomeRefused bytes = Answered o words SomeRefused bytes
 Outcome o words (BadWords NotBuilt) bytes = WordsRefused words bytes
 Outcome o words (BadWords fault) bytes = ⊥
 Outcome o words (BadSetup cause) bytes = SetupRefused o words cause bytes
-Outcome o words ReadFault bytes = BeginsAnswers o words bytes
+Outcome o words ReadFault bytes = AnswersRead o words bytes
 Outcome o words InputTooLong bytes = BeginsAnswers o words bytes × IsLongInput o.input
 Outcome o words WriteFault bytes = BeginsAllowed o words bytes
 Outcome o words OutOfMemory bytes = BeginsAllowed o words bytes

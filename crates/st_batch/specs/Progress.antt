@@ -1,5 +1,5 @@
 -- How far the answering of lines has come.
-use Rattle.std.specs.Prelude.{◌≡◌, ℕ, true, false, ◌||◌, ◌==◌, if◌then◌else◌, Option, List, [], ◌∷◌, ◌++◌, length, ⊤}
+use Rattle.std.specs.Prelude.{◌≡◌, ℕ, true, false, ◌||◌, if◌then◌else◌, Option, List, [], ◌∷◌, ◌++◌, length, ⊤}
 use Rattle.std.specs.Io.KnownBytes.{Appends, Consumes}
 use Rattle.std.specs.List.{flat_map, list_any}
 use Rattle.st_text.specs.Lines.{lines_of}
@@ -12,9 +12,9 @@ use Rattle.st_batch.specs.declared.answer.Answer.{Answer}
 use Rattle.st_batch.specs.declared.answering.Answering.{Answering}
 use Rattle.st_batch.specs.declared.job.Work.{Work}
 use Rattle.st_batch.specs.declared.status.Status.{Status}
-use Rattle.st_batch.specs.declared.status.Status.TheVariants.{Done, SomeRefused, BadWords, BadSetup, WriteFault, OutOfMemory, InputTooLong}
+use Rattle.st_batch.specs.declared.status.Status.TheVariants.{Done, SomeRefused, BadWords, BadSetup, ReadFault, WriteFault, OutOfMemory, InputTooLong}
 use Rattle.st_batch.specs.Causes.{AreCounted}
-use Rattle.st_batch.specs.Outcome.{Outside, line_of, is_refused, status_of, IsLongInput}
+use Rattle.st_batch.specs.Outcome.{HasNoFeed, HaveEnded, IsLongInput, Outside, is_refused, line_of, status_of}
 use Rattle.st_batch.specs.Session.{MayAnswer, RunsTo}
 use Rattle.st_batch.specs.Taken.{TakesPrefix}
 use Rattle.st_batch.specs.Words.{AreLines, IsShortInput}
@@ -99,10 +99,6 @@ FinishesWriting before now answering WriteFault = TakesPrefix before now answeri
 FinishesWriting before now answering OutOfMemory = TakesPrefix before now answering.gathered.items
 FinishesWriting before now answering status = ⊥
 
--- the bytes have no line feed
-abbrev pub HasNoFeed : List ℕ → Type 0
-HasNoFeed bytes = list_any (λ b. b == 10) bytes ≡ false
-
 -- the bytes up to the first line feed, and those behind it
 pub record CutsAtFeed (text end behind : List ℕ) : Type 0 where
   pub whole : text ≡ end ++ (10 ∷ behind)
@@ -166,12 +162,25 @@ pub record SomeAnswered (o : Outside) (work : Work) (loaded : List Kernel) (byte
   pub counted : AreCounted o.before o.now answers
   pub written : flat_map line_of answers ≡ bytes ++ rest
 
+-- from a loaded list on the lines that had ended before a read failed were answered, and all their answers written
+pub record ReadAnswered (o : Outside) (work : Work) (loaded : List Kernel) (bytes : List ℕ) : Type 0 where
+  pub lines : List (List ℕ)
+  pub more : List (List ℕ)
+  pub answers : List Answer
+  pub after : List Kernel
+  pub are_lines : AreLines work o.input (lines ++ more)
+  pub ended : HaveEnded o.input o.left lines
+  pub answered : RunsTo o.files loaded lines answers after
+  pub counted : AreCounted o.before o.now answers
+  pub written : bytes ≡ flat_map line_of answers
+
 -- what was written of the answers, by how the answering ended
 abbrev pub LinesEnd : Outside → Work → List Kernel → Status → List ℕ → Type 0
 LinesEnd o work loaded Done bytes = AllAnswered o work loaded Done bytes
 LinesEnd o work loaded SomeRefused bytes = AllAnswered o work loaded SomeRefused bytes
 LinesEnd o work loaded (BadWords fault) bytes = ⊥
 LinesEnd o work loaded (BadSetup cause) bytes = ⊥
+LinesEnd o work loaded ReadFault bytes = ReadAnswered o work loaded bytes
 LinesEnd o work loaded InputTooLong bytes = SomeAnswered o work loaded bytes × IsLongInput o.input
 LinesEnd o work loaded status bytes = SomeAnswered o work loaded bytes
 

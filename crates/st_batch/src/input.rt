@@ -4,8 +4,8 @@ ghost use Rattle.std.specs.Prelude.{◌≡◌, ◌+◌, ◌≢◌, ◌≤◌, �
 ghost use Rattle.std.specs.Io.KnownBytes.{IsAtEnd};
 ghost use Rattle.st_outside.specs.Causes.{AreLater, Rose, RoseBeyond};
 ghost use Rattle.st_text.specs.Lines as lines;
-ghost use Rattle.st_batch.specs.Outcome.{AnswersAll, Took};
-ghost use Rattle.st_batch.specs.Progress.{AnswersOne, CutsAtFeed, Finishes, FinishesWriting, Halts, HasNoFeed, IsOfLines, LinesEnd, Reads, stopped_by};
+ghost use Rattle.st_batch.specs.Outcome.{AnswersAll, HasNoFeed, Took};
+ghost use Rattle.st_batch.specs.Progress.{AnswersOne, CutsAtFeed, Finishes, FinishesWriting, Halts, IsOfLines, LinesEnd, Reads, stopped_by};
 ghost use Rattle.st_batch.specs.declared.job.Work.TheVariants.{Batch};
 
 use crate::answering::Answering;
@@ -36,6 +36,7 @@ pub fn answer_lines<F: Files, I: Source, O: Sink>(
         (record {
           files = F.map files.old;
           input = I.left input.old;
+          left = I.left input.new;
           before = F.counts files.old;
           now = F.counts files.new;
         }) work.now session result bytes) }
@@ -72,6 +73,7 @@ fn answer_input<F: Files, I: Source, O: Sink>(
         (record {
           files = F.map files.old;
           input = I.left input.old;
+          left = I.left input.new;
           before = F.counts files.old;
           now = F.counts files.new;
         }) Batch answering.old.session result bytes) }

@@ -37,6 +37,7 @@ pub fn run<F: Files, I: Source, O: Sink>(
         (record {
           files = F.map files.old;
           input = I.left input.old;
+          left = I.left input.new;
           before = F.counts files.old;
           now = F.counts files.new;
         }) (map string_bytes words.now) result) }
@@ -83,6 +84,7 @@ fn run_job<F: Files, I: Source, O: Sink>(
         (record {
           files = F.map files.old;
           input = I.left input.old;
+          left = I.left input.new;
           before = F.counts files.old;
           now = F.counts files.new;
         }) words result) }

@@ -6,6 +6,7 @@ use Rattle.st_batch.proofs.input.answer_input.Goals as goal
 pub loop-read-init : goal.loop-read-init
 loop-read-init g c = record {
   come = input-none _ _ _ _ c.new-begun.ensures.items;
+  gathered = c.requires.gathered;
   few = omega arith;
   room = refl;
   taken = omega arith;
@@ -18,25 +19,26 @@ loop-read-init g c = record {
 }
 
 pub returns-in-Err-clause-told : goal.returns-in-Err-clause-told
-returns-in-Err-clause-told g c = input-fault _ _ _ _ _ _ _ c.requires.gathered c.loop-read.invariant.come
+returns-in-Err-clause-told g c = input-fault _ _ _ _ _ _ _ _ c.requires.gathered c.loop-read.invariant.gathered c.loop-read.invariant.come c.in-Err.ensures.bytes
 
 pub returns-then-count-eq0-clause-told : goal.returns-then-count-eq0-clause-told
 returns-then-count-eq0-clause-told g c =
-    input-ends _ _ _ _ _ _ _ _ _ _ _ _ _ _ _ c.requires.gathered c.requires.refused c.loop-read.invariant.map c.as_slice.ensures.value c.if-count-eq0.true
+    input-ends _ _ _ _ _ _ _ _ _ _ _ _ _ _ _ _ c.requires.gathered c.requires.refused c.loop-read.invariant.map c.as_slice.ensures.value c.if-count-eq0.true
     c.loop-read.invariant.few c.loop-read.invariant.come c.in-Ok.ensures.bytes.0 (c.in-Ok.ensures.bytes.1 c.if-count-eq0.true (omega (arith, c.read.auto.buf, c.loop-read.invariant.room))) c.answer_last.ensures.finished
 
 pub returns-then-count-read-clause-told : goal.returns-then-count-read-clause-told
 returns-then-count-read-clause-told g c =
     let many : 67108864 < c.loop-read.read + length (take c.in-Ok.count c.read.new.buf) = omega (arith, c.in-Ok.ensures.bound.1, c.if-count-read.true) in
-    input-long _ _ _ _ _ _ _ _ _ c.requires.gathered many c.loop-read.invariant.come c.in-Ok.ensures.bytes.0
+    input-long _ _ _ _ _ _ _ _ _ _ c.requires.gathered many c.loop-read.invariant.come c.in-Ok.ensures.bytes.0
 
 pub returns-in-Err-answer_piece-clause-told : goal.returns-in-Err-answer_piece-clause-told
 returns-in-Err-answer_piece-clause-told g c =
-    input-stopped _ _ _ _ _ _ _ _ _ _ _ _ _ _ c.requires.gathered c.loop-read.invariant.map c.stopped.ensures c.loop-read.invariant.come c.in-Ok.ensures.bytes.0 c.in-Err-answer_piece.ensures.err
+    input-stopped _ _ _ _ _ _ _ _ _ _ _ _ _ _ _ c.requires.gathered c.loop-read.invariant.map c.stopped.ensures c.loop-read.invariant.come c.in-Ok.ensures.bytes.0 c.in-Err-answer_piece.ensures.err
 
 pub loop-read-preserved : goal.loop-read-preserved
 loop-read-preserved g c = record {
   come = input-next _ _ _ _ _ _ _ _ _ _ _ _ _ c.loop-read.invariant.map (omega (arith, c.in-Ok.ensures.bound.1)) c.loop-read.invariant.come c.in-Ok.ensures.bytes.0 c.in_default.ensures.ok;
+  gathered = c.in_default.ensures.gathered;
   few = omega (arith, c.if-count-read.false, c.loop-read.invariant.few);
   room = omega (arith, c.read.auto.buf, c.loop-read.invariant.room);
   taken = omega (arith, c.in-Ok.ensures.count.counted, c.loop-read.invariant.taken);

@@ -1,4 +1,4 @@
-use Rattle.std.proofs.Common.{◌≡◌, ◌≤◌, ◌+◌, ◌-◌, ◌^◌, min, false, length}
+use Rattle.std.proofs.Common.{◌≡◌, ◌≤◌, ◌+◌, ◌-◌, ◌^◌, min, false, length, []}
 use Rattle.st_outside.specs.Causes.{AreLater}
 use Rattle.st_batch.specs.Progress.{ReadsInput}
 use Rattle.st_batch.proofs.input.answer_input.Given as goal
@@ -9,6 +9,7 @@ invariant-loop-read g l = record {
       (record { counts = g.F.Files.counts l.fn.files; taken = g.O.Sink.taken l.fn.out; answering = l.fn.answering })
       (record { counts = g.F.Files.counts l.files; taken = g.O.Sink.taken l.out; answering = l.answering })
       l.begun.items l.read;
+  gathered : l.answering.gathered.items ≡ [];
   few : l.read ≤ 67108864;
   room : length l.piece ≡ 65536;
   taken : min (g.I.Source.taken l.fn.input + l.read) (2 ^ 64 - 1) ≤ g.I.Source.taken l.input;

@@ -32,12 +32,12 @@ returns-in-Ok g c =
 pub returns-in-Err-NotBuilt-clause-told : goal.returns-in-Err-NotBuilt-clause-told
 returns-in-Err-NotBuilt-clause-told g c =
     let still : FileCounts = g.F.Files.counts c.args.files.now in
-    words-outcome (outside (g.F.Files.map c.args.files.now) (g.I.Source.left c.args.input.now) still still)
+    words-outcome (outside (g.F.Files.map c.args.files.now) (g.I.Source.left c.args.input.now) (g.I.Source.left c.args.input.now) still still)
     (map string_bytes c.args.words.now) c.deliver.result (g.O.Sink.taken c.args.out.now) (g.O.Sink.taken c.deliver.new.out)
     (c.in-Err-NotBuilt.ensures.not_built (ap Err c.in-Err-NotBuilt.field-0-is)) c.deliver.ensures.delivers
 
 pub returns-in-Err-OutOfMemory-clause-told : goal.returns-in-Err-OutOfMemory-clause-told
 returns-in-Err-OutOfMemory-clause-told g c =
     let still : FileCounts = g.F.Files.counts c.args.files.now in
-    nothing-of-words (outside (g.F.Files.map c.args.files.now) (g.I.Source.left c.args.input.now) still still)
+    nothing-of-words (outside (g.F.Files.map c.args.files.now) (g.I.Source.left c.args.input.now) (g.I.Source.left c.args.input.now) still still)
     (map string_bytes c.args.words.now) (g.O.Sink.taken c.args.out.now) (told-job (map string_bytes c.args.words.now)) (later-same _)

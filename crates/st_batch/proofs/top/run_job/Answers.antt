@@ -14,7 +14,7 @@ returns-in-Ok g c =
     let of = c.answer_lines.ensures.of_lines in
     let P : List ℕ → Type 0 = λ name. LoadGives (g.F.Files.map c.args.files.now) [] name (Ok c.in-Ok.session) in
     record {
-      told = λ words asked. lines-outcome (g.F.Files.map c.args.files.now) (g.F.Files.map c.begin.new.files) (g.I.Source.left c.args.input.now) (g.O.Sink.taken c.args.out.now) (g.O.Sink.taken c.answer_lines.new.out)
+      told = λ words asked. lines-outcome (g.F.Files.map c.args.files.now) (g.F.Files.map c.begin.new.files) (g.I.Source.left c.args.input.now) (g.I.Source.left c.answer_lines.new.input) (g.O.Sink.taken c.args.out.now) (g.O.Sink.taken c.answer_lines.new.out)
           before mid now words c.args.job.now c.in-Ok.session status c.in-Ok.ensures.map c.in-Ok.ensures.later asked (subst P c.as_slice.ensures c.in-Ok.ensures.ok) c.answer_lines.ensures.told;
       of_job = lines-of-job status of;
       causes = lines-caused status before now of;
@@ -32,7 +32,7 @@ returns-in-Ok g c =
 
 pub returns-in-Err-OutOfMemory-clause-told : goal.returns-in-Err-OutOfMemory-clause-told
 returns-in-Err-OutOfMemory-clause-told g c = λ words asked.
-    nothing-of-job (outside (g.F.Files.map c.args.files.now) (g.I.Source.left c.args.input.now)
+    nothing-of-job (outside (g.F.Files.map c.args.files.now) (g.I.Source.left c.args.input.now) (g.I.Source.left c.args.input.now)
     (g.F.Files.counts c.args.files.now)
     (g.F.Files.counts c.begin.new.files))
     words c.args.job.now (g.O.Sink.taken c.args.out.now) asked c.in-Err-OutOfMemory.ensures.later
@@ -41,7 +41,7 @@ pub returns-in-Err : goal.returns-in-Err
 returns-in-Err g c =
     let before : FileCounts = g.F.Files.counts c.args.files.now in
     let now : FileCounts = g.F.Files.counts c.begin.new.files in
-    let o = outside (g.F.Files.map c.args.files.now) (g.I.Source.left c.args.input.now) before now in
+    let o = outside (g.F.Files.map c.args.files.now) (g.I.Source.left c.args.input.now) (g.I.Source.left c.args.input.now) before now in
     let fault = c.in-Err.fault in
     let not = c.refuse_setup.ensures.not_memory in
     let d = c.refuse_setup.ensures.delivers in
