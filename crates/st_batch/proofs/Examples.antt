@@ -3,6 +3,7 @@ use Rattle.std.proofs.Common.{◌≡◌, ℕ, zero, suc, ◌<◌, inl, inr, Some
 use Rattle.std.proofs.lemmas.Str.{IsUtf8-from_ascii}
 use Rattle.std.specs.Str.{IsAscii}
 use Rattle.st_pool.specs.declared.kernel.Kernel.{Kernel}
+use Rattle.st_text.specs.Lines.{without_cr}
 use Rattle.st_batch.specs.declared.answer.Answer.TheVariants.{Text, Refused}
 use Rattle.st_batch.specs.declared.fault.LineFault.TheVariants.{NoFile, NotLoaded}
 use Rattle.st_batch.specs.declared.status.Status.TheVariants.{SomeRefused}
@@ -68,6 +69,7 @@ ended = refl
 
 -- one line has ended in what was read, and `b` has begun the next one
 pub read_before : HaveEnded (Some (codes "a\r\nbc\n")) (Some (codes "c\n")) (codes "a" ∷ [])
+unfolding without_cr
 read_before = record {
   read = codes "a\r\nb";
   begun = codes "b";
