@@ -22,14 +22,15 @@ IsComplete (BadWords fault) = ⊤
 IsComplete (BadSetup cause) = ⊤
 IsComplete status = ⊥
 
--- the files and the input tell their bytes, and the files' count of faults did not rise
+-- the files and the input tell their bytes, and the files' count of faults did not rise and isn't at its last value, where no
+-- rise would show
 pub record IsTold (o : Outside) (files : Entries) (input : List ℕ) : Type 0 where
   pub files_told : o.files ≡ Some files
   pub input_told : o.input ≡ Some input
   pub no_fault : o.now.faults ≡ o.before.faults
   pub not_last : o.before.faults < 2 ^ 64 - 1
 
--- Where the files had no fault the words, the files and the input allow one whole output, with one status, whatever the counts are.
+-- Where the files had no fault the words, the files and the input allow at most one whole output, with one status, whatever the counts are.
 abbrev pub OneOutput : Type 0
 OneOutput =
     (o p : Outside) (files : Entries) (input : List ℕ) (words : List (List ℕ)) (first second : Status) (one other : List ℕ)
@@ -42,7 +43,7 @@ EveryLineHasAnswer =
     (files : Option Entries) (loaded : List Kernel) (line : List ℕ)
     → (answer : Answer) × ((after : List Kernel) × MayAnswer files loaded line answer after × (answer ≢ Refused FileFault))
 
--- By files that tell their bytes a line has one answer, and one loaded list after it, where it names no fault of the files.
+-- By files that tell their bytes a line has at most one answer, with one loaded list after it, that names no fault of the files.
 abbrev pub OneAnswer : Type 0
 OneAnswer =
     (files : Entries) (loaded after next : List Kernel) (line : List ℕ) (answer other : Answer)

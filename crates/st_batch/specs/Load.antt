@@ -3,9 +3,12 @@ use Rattle.std.specs.Prelude.{◌≡◌, ℕ, ◌+◌, ◌<◌, ◌≤◌, Optio
 use Rattle.st_kernel_text.specs.File.{Reads}
 use Rattle.st_kernel_text.specs.declared.assignment.Assignment.{Assignment}
 use Rattle.st_kernel_text.specs.declared.fault.TextCause.{TextCause}
-use Rattle.st_kernel_text.specs.declared.fault.TextFault.TheVariants.{At}
+use Rattle.st_kernel_text.specs.declared.fault.TextFault.{TextFault}
+use Rattle.st_kernel_text.specs.declared.fault.TextFault.TheVariants as text
 use Rattle.st_outside.specs.Entries.{Entries, bytes_of, IsAbsent}
 use Rattle.st_pool.specs.Loaded.{value_count, loaded_count}
+use Rattle.st_pool.specs.declared.fault.LoadFault.{LoadFault}
+use Rattle.st_pool.specs.declared.fault.LoadFault.TheVariants as pool
 use Rattle.st_pool.specs.declared.kernel.Kernel.{Kernel}
 use Rattle.st_batch.specs.declared.fault.LineFault.{LineFault}
 use Rattle.st_batch.specs.declared.fault.LineFault.TheVariants.{NoFile, FileFault, FileTooLong, KernelText, TooManyKernels, TooManyValues, OutOfMemory}
@@ -42,7 +45,7 @@ pub record HoldsFault (files : Option Entries) (name : List ℕ) (line : ℕ) (c
   pub bytes : List ℕ
   pub has : HasFile files name bytes
   pub few : length bytes ≤ 16_777_216
-  pub reads : Reads bytes (Err (At line cause))
+  pub reads : Reads bytes (Err (text.At line cause))
 
 -- the file of this name is a kernel, which the loaded list takes: it stands at the end of the new list
 pub record Loads (files : Option Entries) (loaded : List Kernel) (name : List ℕ) (after : List Kernel) : Type 0 where
@@ -81,3 +84,14 @@ LoadGives files loaded name (Err cause) = ⊥
 abbrev pub LoadRefuses : Option Entries → List Kernel → List ℕ → LineFault → Type 0
 LoadRefuses files loaded name OutOfMemory = ⊤
 LoadRefuses files loaded name cause = LoadGives files loaded name (Err cause)
+
+-- the refusal of a file that is no kernel
+abbrev pub refusal_of_text : TextFault → LineFault
+refusal_of_text (text.At line cause) = KernelText line cause
+refusal_of_text text.OutOfMemory = OutOfMemory
+
+-- the refusal of a kernel that the pool doesn't take
+abbrev pub refusal_of_load : LoadFault → LineFault
+refusal_of_load pool.TooManyKernels = TooManyKernels
+refusal_of_load pool.TooManyValues = TooManyValues
+refusal_of_load pool.OutOfMemory = OutOfMemory

@@ -2,12 +2,9 @@
 use Rattle.std.specs.Prelude.{◌≡◌, ℕ, ◌+◌, ◌<◌, ◌≤◌, Option, Ok, Err, List, [], ◌∷◌, ◌++◌, length, ⊤}
 use Rattle.st_kernel_text.specs.File.{Reads}
 use Rattle.st_kernel_text.specs.declared.assignment.Assignment.{Assignment}
-use Rattle.st_kernel_text.specs.declared.fault.TextFault.{TextFault}
 use Rattle.st_kernel_text.specs.declared.fault.TextFault.TheVariants as text
 use Rattle.st_outside.specs.Entries.{Entries, IsAbsent}
 use Rattle.st_pool.specs.Loaded.{value_count, loaded_count}
-use Rattle.st_pool.specs.declared.fault.LoadFault.{LoadFault}
-use Rattle.st_pool.specs.declared.fault.LoadFault.TheVariants as pool
 use Rattle.st_pool.specs.declared.kernel.Kernel.{Kernel}
 use Rattle.st_batch.specs.declared.fault.LineFault.{LineFault}
 use Rattle.st_batch.specs.declared.fault.LineFault.TheVariants.{NoFile, FileFault, FileTooLong, KernelText, TooManyKernels, TooManyValues, OutOfMemory}
@@ -46,14 +43,3 @@ BytesRefuse bytes loaded TooManyValues =
     × (2_000_000 < loaded_count loaded + value_count assignments)
 BytesRefuse bytes loaded OutOfMemory = ⊤
 BytesRefuse bytes loaded cause = ⊥
-
--- the refusal of a file that is no kernel
-abbrev pub refusal_of_text : TextFault → LineFault
-refusal_of_text (text.At line cause) = KernelText line cause
-refusal_of_text text.OutOfMemory = OutOfMemory
-
--- the refusal of a kernel that the pool doesn't take
-abbrev pub refusal_of_load : LoadFault → LineFault
-refusal_of_load pool.TooManyKernels = TooManyKernels
-refusal_of_load pool.TooManyValues = TooManyValues
-refusal_of_load pool.OutOfMemory = OutOfMemory

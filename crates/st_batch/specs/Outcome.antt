@@ -91,8 +91,8 @@ pub record BeginsAnswers (o : Outside) (words : List (List ℕ)) (bytes : List �
 abbrev pub HasNoFeed : List ℕ → Type 0
 HasNoFeed bytes = list_any (λ b. b == 10) bytes ≡ false
 
--- These lines have ended in what was read of the input: whatever follows it, they are the first lines, and the next one is
--- that which had begun.
+-- These lines have ended in what was read of the input: whatever is read later, the input's lines begin with these, and
+-- the next one begins with `begun`.
 pub record HaveEnded (input left : Option (List ℕ)) (lines : List (List ℕ)) : Type 0 where
   pub read : List ℕ
   pub begun : List ℕ
@@ -142,19 +142,19 @@ Outcome o words OutOfMemory bytes = BeginsAllowed o words bytes
 abbrev pub Took : Option (List ℕ) → Option (List ℕ) → (List ℕ → Type 0) → Type 0
 Took before after P = (bytes : List ℕ) × Appends before after bytes × P bytes
 
--- all lines were answered
+-- a run that ended so has answered all lines
 abbrev pub AnswersAll : Status → Type 0
 AnswersAll Done = ⊤
 AnswersAll SomeRefused = ⊤
 AnswersAll status = ⊥
 
--- a run of these words that ended so read nothing
+-- a run of these words that ended so had nothing to read
 abbrev pub ReadsNothing : List (List ℕ) → Status → Type 0
 ReadsNothing words (BadWords fault) = ⊤
 ReadsNothing words (BadSetup cause) = ⊤
 ReadsNothing words status = (job : Job) → AskFor words job → job.work ≡ Batch → ⊥
 
--- a run that answered the lines of its input read all of them
+-- a run of these words that ended so has answered the lines of its input
 abbrev pub ReadsAll : List (List ℕ) → Status → Type 0
 ReadsAll words Done = (job : Job) × AskFor words job × (job.work ≡ Batch)
 ReadsAll words SomeRefused = (job : Job) × AskFor words job × (job.work ≡ Batch)

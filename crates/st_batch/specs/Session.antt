@@ -38,7 +38,7 @@ IsTime text = begins_command text ≡ false
 abbrev pub HaveNoTable : List Kernel → Type 0
 HaveNoTable loaded = (table : List LeapPair) → GiveTable loaded table → ⊥
 
--- A text may be refused. Nothing else happens then.
+-- why a text may be refused
 abbrev pub MayRefuse : Option Entries → List Kernel → List ℕ → LineFault → Type 0
 MayRefuse files loaded text BadCommand = (begins_command text ≡ true) × IsNoCommand text
 MayRefuse files loaded text NotLoaded = (name : List ℕ) × IsUnload text name × (is_loaded name loaded ≡ false)

@@ -14,7 +14,9 @@ use std::alloc::Global;
 /// The answer of a line: a text, or why the line is refused.
 #[derive(Debug, Drop)]
 pub enum Answer {
+    /// What a command did, or seconds of TAI past J2000 with six decimals; without the end of the line.
     Text(Line),
+    /// Why the line is refused, which is never want of memory.
     Refused(LineFault),
 }
 

@@ -66,7 +66,7 @@ impl From<OutOfMemory> for LineFault {
 }
 
 impl From<TextFault> for LineFault {
-    ghost use Rattle.st_batch.specs.LoadMachine.{refusal_of_text};
+    ghost use Rattle.st_batch.specs.Load.{refusal_of_text};
 
     ghost from_gives = { λ fault e. e ≡ refusal_of_text fault };
 
@@ -79,7 +79,7 @@ impl From<TextFault> for LineFault {
 }
 
 impl From<LoadFault> for LineFault {
-    ghost use Rattle.st_batch.specs.LoadMachine.{refusal_of_load};
+    ghost use Rattle.st_batch.specs.Load.{refusal_of_load};
 
     ghost from_gives = { λ fault e. e ≡ refusal_of_load fault };
 

@@ -1,20 +1,20 @@
 //! Answering the lines that are asked for.
 
-ghost use Rattle.std.specs.Prelude.{◌≡◌, ◌+◌, ◌≢◌, ◌≤◌, ◌==◌, false, [], ◌∷◌, ◌++◌, length, position, MatchOption, OnOk, OnErr, IsErrOf};
+ghost use Rattle.std.specs.Prelude.{◌≡◌, ◌+◌, ◌≢◌, ◌≤◌, false, [], ◌∷◌, ◌++◌, length, MatchOption, OnOk, OnErr, IsErrOf};
 ghost use Rattle.std.specs.Io.KnownBytes.{IsAtEnd};
 ghost use Rattle.st_outside.specs.Causes.{AreLater, Rose, RoseBeyond};
 ghost use Rattle.st_text.specs.Lines as lines;
 ghost use Rattle.st_batch.specs.Outcome.{AnswersAll, HasNoFeed, Took};
-ghost use Rattle.st_batch.specs.Progress.{AnswersOne, CutsAtFeed, Finishes, FinishesWriting, Halts, IsOfLines, LinesEnd, Reads, stopped_by};
+ghost use Rattle.st_batch.specs.Progress.{AnswersOne, CutsAtFeed, Finishes, FinishesWriting, Halts, IsOfLines, LinesEnd, Reads};
 ghost use Rattle.st_batch.specs.declared.job.Work.TheVariants.{Batch};
 
 use crate::answering::Answering;
 use crate::job::Work;
 use crate::session::Session;
-use crate::status::Status;
+use crate::status::{Status, stopped_by};
 use st_decimal::OutOfMemory;
 use st_outside::{Files, Sink, SinkFault, Source};
-use st_text::without_cr;
+use st_text::{line_end, without_cr};
 use std::alloc::Global;
 
 /// The most bytes that the input may have.
@@ -103,7 +103,7 @@ fn answer_input<F: Files, I: Source, O: Sink>(
         }
         read += count;
         if let Err(fault) = answer_piece(answering, &mut begun, &piece[..count], files, out) {
-            return stopped(fault);
+            return stopped_by(fault);
         }
     }
 }
@@ -159,17 +159,7 @@ fn finish<O: Sink>(answering: &mut Answering, out: &mut O) -> Status
 {
     match answering.write(out) {
         Ok(()) => answering.status(),
-        Err(fault) => stopped(fault),
-    }
-}
-
-/// How a run ends that a fault of the output or want of memory stopped.
-pub fn stopped(fault: SinkFault) -> Status
-    ensures { result ≡ stopped_by fault }
-{
-    match fault {
-        SinkFault::Failed => Status::WriteFault,
-        SinkFault::OutOfMemory => Status::OutOfMemory,
+        Err(fault) => stopped_by(fault),
     }
 }
 
@@ -210,17 +200,10 @@ fn answer_piece<F: Files, O: Sink>(
 fn ended_line(text: &[u8]) -> Option<(&[u8], &[u8])>
     ensures { MatchOption result (HasNoFeed text.now) (λ parts. CutsAtFeed text.now parts.0.now parts.1.now) }
 {
-    match feed_place(text) {
+    match line_end(text) {
         Some(end) => Some((&text[..end], &text[end + 1..])),
         None => None,
     }
-}
-
-/// The place of the first line feed.
-fn feed_place(text: &[u8]) -> Option<usize>
-    ensures { result ≡ position (λ b. b == 10) text.now }
-{
-    text.iter().position(|&byte| byte == b'\n')
 }
 
 /// Answers the line that has begun and ends with these bytes, which a line feed follows, and writes where enough is

@@ -2,17 +2,19 @@
 
 use st_decimal::KText;
 
-/// A conversion that is asked for: the setup file's name, and where the lines come from.
+/// A conversion that is asked for.
 #[derive(Debug, Drop)]
 pub struct Job {
+    /// The setup file's name, of 1 to 255 bytes.
     pub setup: KText,
+    /// Where the lines come from.
     pub work: Work,
 }
 
 /// Where the lines come from.
 #[derive(Debug, Drop)]
 pub enum Work {
-    /// There is one line, of the words.
+    /// There is one line, which the words give: a time or a command.
     Time(KText),
     /// The lines are those of the input.
     Batch,

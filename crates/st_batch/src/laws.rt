@@ -2,8 +2,8 @@
 
 ghost use Rattle.st_batch.specs.Laws.{EveryBeginningGoesOn, EveryLineHasAnswer, GoodRunIsAnswered, OneAnswer, OneOutput};
 
-/// Where the files and the input tell their bytes and the files had no fault there is one whole output, so that `run`,
-/// where it isn't cut off, is then a function of the words, the files and the input.
+/// Where the files and the input tell their bytes and the files had no fault there is at most one whole output, so that
+/// `run`, where it isn't cut off, is then a function of the words, the files and the input.
 pub fn one_output()
     ensures { OneOutput }
 {}
@@ -13,8 +13,8 @@ pub fn every_line_has_an_answer()
     ensures { EveryLineHasAnswer }
 {}
 
-/// Where the files tell their bytes a line has one answer, and one loaded list after it, but for an answer that names a
-/// fault of the files. So a text that stands for a time is converted wherever there is a table, and a kernel within the
+/// Where the files tell their bytes a line has at most one answer, with one loaded list after it, that names no fault of
+/// the files. So a text that stands for a time is converted wherever there is a table, and a kernel within the
 /// limits is loaded.
 pub fn one_answer()
     ensures { OneAnswer }

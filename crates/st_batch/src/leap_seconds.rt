@@ -7,13 +7,7 @@ ghost use Rattle.st_batch.specs.LeapSeconds as table;
 ghost use Rattle.st_dates.specs.Label.{IsPlainLabel, formal};
 ghost use Rattle.st_dates.specs.declared.label.TheConstants as range;
 
-use st_dates::{FIRST, LAST, Label, formal_of};
-
-/// The units of 10^-18 s in a second.
-const SECOND: i128 = 1_000_000_000_000_000_000;
-
-/// The units of 10^-18 s in a day of 86,400 s.
-const DAY: i128 = 86_400 * SECOND;
+use st_dates::{DAY, FIRST, LAST, Label, SECOND, formal_of};
 
 /// The most pairs of a table.
 pub const MAX_PAIRS: usize = 1000;

@@ -15,6 +15,9 @@ use std::alloc::Global;
 /// The most bytes that a file may have.
 pub const MAX_FILE: usize = 16_777_216;
 
+/// How many bytes of a file are read at a time.
+const PIECE: usize = 4096;
+
 /// Loads the file of this name behind all kernels of the pool. No file is open afterwards.
 ///
 /// # Errors
@@ -83,7 +86,7 @@ fn read_open<F: Files>(alloc: Global, files: &mut F) -> Result<Vec<u8>, LineFaul
     ensures later { AreLater (F.counts files.old) (F.counts files.new) }
 {
     let mut bytes = Vec::new(alloc);
-    let mut buf = [0u8; 4096];
+    let mut buf = [0u8; PIECE];
     while bytes.len() <= MAX_FILE {
         match files.read(&mut buf) {
             Ok(0) => return Ok(bytes),

@@ -85,9 +85,13 @@ impl Session {
         &self.pool
     }
 
-    /// The answer of a line: of a command that begins with `$`, or of a time.
+    /// The answer of a line without its end: of a command that begins with `$`, or of a time.
     ///
-    /// A refusal, and want of memory, leave the loaded kernels as they were.
+    /// A refusal leaves the loaded kernels as they were.
+    ///
+    /// # Errors
+    ///
+    /// Want of memory; the loaded kernels are then as they were.
     pub fn answer_line<F: Files>(
         &mut self,
         line: &[u8],
@@ -108,9 +112,13 @@ impl Session {
         }
     }
 
-    /// The answer of a line that begins with `$`: `$load N`, `$unload N` or `$clear`.
+    /// The answer of a line without its end that begins with `$`: `$load N`, `$unload N` or `$clear`.
     ///
-    /// A refusal, and want of memory, leave the loaded kernels as they were.
+    /// A refusal leaves the loaded kernels as they were.
+    ///
+    /// # Errors
+    ///
+    /// Want of memory; the loaded kernels are then as they were.
     pub fn command_line<F: Files>(
         &mut self,
         line: &[u8],

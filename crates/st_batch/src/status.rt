@@ -1,9 +1,11 @@
 //! How a run ended.
 
 ghost use Rattle.std.specs.Prelude.{◌≡◌};
+ghost use Rattle.st_batch.specs.Progress as progress;
 ghost use Rattle.st_batch.specs.Texts.{code_of};
 
 use crate::fault::{LineFault, WordFault};
+use st_outside::SinkFault;
 
 /// How a run ended. Its number is the program's exit status.
 #[derive(Clone, Copy, Debug, PartialEq, Eq)]
@@ -41,5 +43,15 @@ impl Status {
             Status::OutOfMemory => 6,
             Status::InputTooLong => 7,
         }
+    }
+}
+
+/// How a run ends that a fault of the output or want of memory cut off.
+pub fn stopped_by(fault: SinkFault) -> Status
+    ensures { result ≡ progress.stopped_by fault }
+{
+    match fault {
+        SinkFault::Failed => Status::WriteFault,
+        SinkFault::OutOfMemory => Status::OutOfMemory,
     }
 }

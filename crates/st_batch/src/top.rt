@@ -13,10 +13,10 @@ ghost use Rattle.st_batch.specs.declared.status.Status.TheVariants.{BadSetup};
 
 use crate::answer::put_refused;
 use crate::fault::{LineFault, WordFault};
-use crate::input::{answer_lines, stopped};
+use crate::input::answer_lines;
 use crate::job::Job;
 use crate::session::Session;
-use crate::status::Status;
+use crate::status::{Status, stopped_by};
 use crate::words::read_words;
 use crate::write::write_all;
 use st_outside::{Files, Sink, Source};
@@ -24,8 +24,10 @@ use std::alloc::Global;
 
 /// Does all that the program does: reads the words, loads the setup, answers the lines and writes the answers.
 ///
-/// The lines are the one of the words, or those of the input. All answers are written before the input is read again.
-/// No file that was opened stays open.
+/// The words are those behind the program's name. The lines are the one of the words, or those of the input. All answers
+/// are written before the input is read again. No file that was opened stays open.
+///
+/// The result says how the run ended; its number is the program's exit status.
 pub fn run<F: Files, I: Source, O: Sink>(
     alloc: Global,
     words: &[String],
@@ -45,7 +47,7 @@ pub fn run<F: Files, I: Source, O: Sink>(
     // The words are refused exactly where they ask for no conversion, unless the line that says so was cut off.
     ensures words { WordsFit result (AskForNone (map string_bytes words.now)) }
 
-    // What comes from outside has its cause, whether bytes are told or not.
+    // A refused setup and an end by a fault have their cause, whether bytes are told or not.
     ensures causes { IsStatusCaused result (F.counts files.old) (F.counts files.new) }
     ensures write_fault { result ≡ Status.WriteFault → Rose (O.faults out.old) (O.faults out.new) }
     ensures read_fault { result ≡ Status.ReadFault → Rose (I.faults input.old) (I.faults input.new) }
@@ -113,6 +115,7 @@ fn refuse_setup<O: Sink>(alloc: Global, fault: LineFault, out: &mut O) -> Status
     requires { fault ≢ LineFault.OutOfMemory }
     ensures delivers { Delivers (codes "bad setup " ++ (texts.refusal_text fault ++ (10 ∷ []))) (BadSetup fault)
         (O.taken out.old) (O.taken out.new) result }
+    // What is required, for the caller's proof.
     ensures not_memory { fault ≢ LineFault.OutOfMemory }
     ensures write_fault { result ≡ Status.WriteFault → Rose (O.faults out.old) (O.faults out.new) }
 {
@@ -123,7 +126,7 @@ fn refuse_setup<O: Sink>(alloc: Global, fault: LineFault, out: &mut O) -> Status
     }
 }
 
-/// Writes the whole output of a run that ends so.
+/// Writes the whole output of a run and ends it so, unless the output or want of memory cuts it off.
 fn deliver<O: Sink>(out: &mut O, output: &[u8], status: Status) -> Status
     requires { IsCut status → ⊥ }
     ensures delivers { Delivers output.now status (O.taken out.old) (O.taken out.new) result }
@@ -131,6 +134,6 @@ fn deliver<O: Sink>(out: &mut O, output: &[u8], status: Status) -> Status
 {
     match write_all(out, output) {
         Ok(()) => status,
-        Err(fault) => stopped(fault),
+        Err(fault) => stopped_by(fault),
     }
 }

@@ -9,11 +9,8 @@ ghost use Rattle.st_dates.specs.Label.{IsPlainLabel};
 ghost use Rattle.st_dates.specs.declared.label.Label.{Label};
 
 use crate::scan::{digits, field};
-use st_dates::{FIRST, LAST, Label, day_of, formal_of};
+use st_dates::{FIRST, LAST, Label, SECOND, day_of, formal_of};
 use st_text::{are_digits, read_digits};
-
-/// The units of 10^-18 s in a second.
-const SECOND: i128 = 1_000_000_000_000_000_000;
 
 /// 1900-01-01 and 2100-01-01, in days past 2000-01-01.
 const FIRST_DAY: i32 = -36_524;

@@ -8,11 +8,11 @@ pub const FIRST: i128 = -3_155_716_800_000_000_000_000_000_000;
 /// The last instant of that range, 2100-01-01 00:00, in units past J2000.
 pub const LAST: i128 = 3_155_716_800_000_000_000_000_000_000;
 
-/// The units in a second.
-pub(crate) const SECOND: i128 = 1_000_000_000_000_000_000;
+/// The units of 10^-18 s in a second.
+pub const SECOND: i128 = 1_000_000_000_000_000_000;
 
-/// The units in a day of 86,400 s.
-pub(crate) const DAY: i128 = 86_400 * SECOND;
+/// The units of 10^-18 s in a day of 86,400 s.
+pub const DAY: i128 = 86_400 * SECOND;
 
 /// A time of a calendar: a day, counted from 2000-01-01, and units of that day, from 0 to less than
 /// 86,401 s, so that a day's inserted second has a place.

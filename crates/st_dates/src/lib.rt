@@ -19,6 +19,6 @@ pub use at_date::read_at_date;
 pub use civil::{Civil, civil_of};
 pub use day::{day_of, day_of_doy};
 pub use fault::DateFault;
-pub use label::{FIRST, LAST, Label, formal_of, label_of};
+pub use label::{DAY, FIRST, LAST, Label, SECOND, formal_of, label_of};
 pub use names::{month_name, month_of, weekday_name};
 pub use system::System;

@@ -2,5 +2,5 @@
 
 use std::alloc::AllocError;
 
-/// Memory was refused. What the call was to change is as before.
+/// Memory was refused. What the call was to change is as before, unless the call says otherwise.
 pub type OutOfMemory = AllocError;

@@ -46,7 +46,7 @@ pub enum DecFault {
     /// it ends too early.
     #[error("no number from byte {0} on")]
     BadByte(usize),
-    /// More than 30 digits stand from the first nonzero digit to the last.
+    /// More than 30 digits stand from the first nonzero digit to the last nonzero one.
     #[error("more than 30 digits")]
     TooManyDigits,
     /// The exponent lies outside -400 to 400.

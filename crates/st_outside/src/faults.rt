@@ -12,7 +12,7 @@ pub type OutOfMemory = AllocError;
 #[derive(Clone, Copy, Debug, PartialEq, Eq)]
 pub struct Failed;
 
-/// A write took nothing.
+/// A write took nothing, where the sink tells what it took.
 #[derive(Clone, Copy, Debug, PartialEq, Eq)]
 pub enum SinkFault {
     /// The sink refused the bytes; its count of faults rose in that call.

@@ -48,7 +48,7 @@ pub trait Sink {
     ///
     /// # Errors
     ///
-    /// [`SinkFault`]; nothing of the piece was then taken.
+    /// [`SinkFault`]; nothing of the piece was then taken, where that is told.
     fn write(&mut self, piece: &[u8]) -> Result<usize, SinkFault>
         ensures bound { WritesAtMost result piece.now }
         ensures progress { IfOk result (λ n. 0 < length piece.now → 0 < n) }
@@ -85,7 +85,8 @@ pub trait Files {
         ensures taken { (counts self.new).taken ≡ (counts self.old).taken }
         ensures later { AreLater (counts self.old) (counts self.new) }
 
-        // With the clauses above and below, a name that isn't in a told map is Missing, unless a fault rose.
+        // With the clauses above and below, a name that isn't in a told map is Missing, unless a fault rose or memory was
+        // refused.
         ensures missing { IsErrOf result OpenFault.Missing → Rose (counts self.old).misses (counts self.new).misses }
         ensures absent { IsErrOf result OpenFault.Missing → IsAbsent (map self.old) name.now }
         ensures no_fault { IsErrOf result OpenFault.Missing → (counts self.new).faults ≡ (counts self.old).faults }

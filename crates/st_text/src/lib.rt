@@ -8,5 +8,5 @@ mod spelling;
 
 pub use blanks::{are_blanks, is_blank, skip_blanks, trim};
 pub use digits::{are_digits, read_digits, read_wide_digits};
-pub use lines::{split_line, without_cr};
+pub use lines::{line_end, split_line, without_cr};
 pub use spelling::{put_padded, write_padded};

@@ -30,7 +30,7 @@ pub fn without_cr(line: &[u8]) -> &[u8]
 }
 
 /// The place of the first line feed.
-fn line_end(bytes: &[u8]) -> Option<usize>
+pub fn line_end(bytes: &[u8]) -> Option<usize>
     ensures { result ≡ position (λ b. b == 10) bytes.now }
 {
     bytes.iter().position(|&byte| byte == b'\n')

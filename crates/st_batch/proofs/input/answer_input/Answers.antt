@@ -33,7 +33,7 @@ returns-then-count-read-clause-told g c =
 
 pub returns-in-Err-answer_piece-clause-told : goal.returns-in-Err-answer_piece-clause-told
 returns-in-Err-answer_piece-clause-told g c =
-    input-stopped _ _ _ _ _ _ _ _ _ _ _ _ _ _ _ c.requires.gathered c.loop-read.invariant.map c.stopped.ensures c.loop-read.invariant.come c.in-Ok.ensures.bytes.0 c.in-Err-answer_piece.ensures.err
+    input-stopped _ _ _ _ _ _ _ _ _ _ _ _ _ _ _ c.requires.gathered c.loop-read.invariant.map c.stopped_by.ensures c.loop-read.invariant.come c.in-Ok.ensures.bytes.0 c.in-Err-answer_piece.ensures.err
 
 pub loop-read-preserved : goal.loop-read-preserved
 loop-read-preserved g c = record {
