@@ -2,11 +2,12 @@
 use Rattle.std.proofs.Common.{◌≡◌, ℕ, suc, ◌+◌, ◌-◌, ◌<◌, ◌≤◌, ◌==◌, Bool, true, false, ◌||◌, cond, not, List, [], ◌∷◌, ◌++◌, length, take, drop, Some, None, refl, sym, ◌∙◌, ap, arith, nat_lt, subst, append_assoc, length-append}
 use Rattle.std.specs.List.{list_any, position, position_or_len}
 use Rattle.std.proofs.Math.Seq.{take-append_seam, drop-append-add}
-use Rattle.std.proofs.lemmas.List.{take_rest}
+use Rattle.std.proofs.lemmas.List.{append_cancel_right, take_rest}
 use Rattle.std.proofs.lemmas.List.Folds.{list_any-append}
 use borrow.Author.Tests.{ltb-true, ltb-false, lt-ltb, le-ltb, eqb-true}
 use Rattle.st_text.specs.Lines.{lines_of, without_cr}
 use Rattle.st_text.proofs.Splits.{raw_lines-at, raw_lines-none, lines_of-first, lines_of-nil}
+use Rattle.st_batch.specs.Laws.{OneEnding}
 use Rattle.st_batch.specs.Outcome.{HasNoFeed}
 use Rattle.st_batch.specs.Progress.{CutsAtFeed, Cuts, EndsLines}
 
@@ -163,3 +164,24 @@ ends-join a b s t xs ys p q = λ later.
           ∙ ap (λ (l : List (List ℕ)). xs ++ l) rest.1
           ∙ sym (append_assoc xs ys rest.0),
     )
+
+-- lists that are one with an element behind them are one
+unsnoc : (xs ys : List (List ℕ)) (x y : List ℕ) → xs ++ (x ∷ []) ≡ ys ++ (y ∷ []) → xs ≡ ys
+unsnoc xs ys x y e =
+    let long : length xs ≡ length ys = omega (arith, ap length e, length-append xs (x ∷ []), length-append ys (y ∷ [])) in
+    sym (take-append_seam xs (x ∷ [])) ∙ ap (λ (n : ℕ). take n (xs ++ (x ∷ []))) long ∙ ap (λ (l : List (List ℕ)). take (length ys) l) e ∙ take-append_seam ys (y ∷ [])
+
+-- a begun line that is ended is the only one
+line-alone : (begun : List ℕ) → HasNoFeed begun → lines_of (begun ++ (10 ∷ [])) ≡ without_cr begun ∷ []
+line-alone begun h = lines-ended begun [] h ∙ ap (λ (l : List (List ℕ)). without_cr begun ∷ l) (lines_of-nil [] refl)
+
+-- what was read of an input ends one list of lines: a line feed behind it ends the one that has begun, and no more
+pub one-ending : OneEnding
+one-ending input left lines other p q =
+    let same : p.read ≡ q.read = append_cancel_right p.read q.read left (sym p.consumed ∙ q.consumed) in
+    let whole : lines ++ (without_cr p.begun ∷ []) ≡ other ++ (without_cr q.begun ∷ []) =
+    sym (p.first (10 ∷ []) ∙ ap (λ (l : List (List ℕ)). lines ++ l) (line-alone p.begun p.unended))
+    ∙ ap (λ (r : List ℕ). lines_of (r ++ (10 ∷ []))) same
+    ∙ q.first (10 ∷ [])
+    ∙ ap (λ (l : List (List ℕ)). other ++ l) (line-alone q.begun q.unended) in
+    unsnoc lines other (without_cr p.begun) (without_cr q.begun) whole

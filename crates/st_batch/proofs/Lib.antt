@@ -3,6 +3,7 @@ pub mod CutLaws
 pub mod Decimals
 pub mod Examples
 pub mod GoesOn
+pub mod GoodRun
 pub mod InputLaws
 pub mod KernelLaws
 pub mod LineLaws

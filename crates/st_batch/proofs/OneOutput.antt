@@ -1,5 +1,5 @@
 -- Where the files had no fault the definitions allow one whole output.
-use Rattle.std.proofs.Common.{◌≡◌, ◌≢◌, ℕ, ◌+◌, ◌-◌, ◌^◌, ◌<◌, ◌⊎◌, inl, inr, cond, count_by, Option, Some, Result, Ok, Err, List, [], ◌∷◌, ◌++◌, codes, refl, sym, ap, ◌∙◌, subst, arith, length, ◌≤◌}
+use Rattle.std.proofs.Common.{◌≡◌, ◌≢◌, ℕ, ◌+◌, ◌-◌, ◌^◌, ◌<◌, ◌⊎◌, inl, inr, cond, count_by, Option, Some, Result, Ok, Err, List, [], ◌∷◌, ◌++◌, codes, refl, sym, ap, ◌∙◌, subst, arith}
 use Rattle.std.proofs.lemmas.List.Sums.{sum_by-cons}
 use Rattle.std.specs.List.{flat_map}
 use Rattle.st_outside.specs.Entries.{Entries}
@@ -16,12 +16,12 @@ use Rattle.st_batch.specs.declared.status.Status.{Status}
 use Rattle.st_batch.specs.declared.status.Status.TheVariants.{Done, SomeRefused, BadWords, BadSetup, ReadFault, WriteFault, OutOfMemory, InputTooLong}
 use Rattle.st_outside.specs.Causes.{RoseBy}
 use Rattle.st_batch.specs.Causes.{is_file_fault}
-use Rattle.st_batch.specs.Laws.{IsComplete, IsTold, OneOutput, GoodRunIsAnswered}
+use Rattle.st_batch.specs.Laws.{IsComplete, IsTold, OneOutput}
 use Rattle.st_batch.specs.Load.{LoadGives}
-use Rattle.st_batch.specs.Outcome.{Outside, Answered, WordsRefused, SetupRefused, Outcome, line_of, status_of, IsLongInput}
+use Rattle.st_batch.specs.Outcome.{Outside, Answered, WordsRefused, SetupRefused, Outcome, line_of, status_of}
 use Rattle.st_batch.specs.Session.{RunsTo}
 use Rattle.st_batch.specs.Texts.{refusal_text}
-use Rattle.st_batch.specs.Words.{AskFor, AreLines}
+use Rattle.st_batch.specs.Words.{AreLines}
 use Rattle.st_batch.proofs.LineLaws.{one-step}
 use Rattle.st_batch.proofs.OneLoad.{one-load}
 use Rattle.st_batch.proofs.WordsLaws.{one-job}
@@ -67,10 +67,10 @@ ok-same x y e = cc
 err-same : {A E : Type 0} (x y : E) → ◌≡◌ {A = Result A E} (Err x) (Err y) → x ≡ y
 err-same x y e = cc
 
-ok-not-err : {A E : Type 0} (x : A) (y : E) → ◌≡◌ {A = Result A E} (Ok x) (Err y) → ⊥
+pub ok-not-err : {A E : Type 0} (x : A) (y : E) → ◌≡◌ {A = Result A E} (Ok x) (Err y) → ⊥
 ok-not-err x y e = absurd cc
 
-ok-no-fault : (loaded : List Kernel) → ◌≢◌ {A = Result (List Kernel) LineFault} (Ok loaded) (Err FileFault)
+pub ok-no-fault : (loaded : List Kernel) → ◌≢◌ {A = Result (List Kernel) LineFault} (Ok loaded) (Err FileFault)
 ok-no-fault loaded = λ e. cc
 
 -- a setup that was refused without a fault of the files
@@ -80,7 +80,7 @@ refused-no-fault o files input cause told h = λ e.
     names-none (Refused cause) 0 (sym (count-first (Refused cause) []) ∙ none-rose (count_by is_file_fault (Refused cause ∷ [])) o.before.faults o.now.faults told.no_fault told.not_last h)
     (ap Refused (err-same cause FileFault e))
 
-given-of : (o : Outside) (files : Entries) (setup other : List ℕ) (r : Result (List Kernel) LineFault) → o.files ≡ Some files → setup ≡ other → LoadGives o.files [] setup r
+pub given-of : (o : Outside) (files : Entries) (setup other : List ℕ) (r : Result (List Kernel) LineFault) → o.files ≡ Some files → setup ≡ other → LoadGives o.files [] setup r
     → LoadGives (Some files) [] other r
 given-of o files setup other r e f h =
     let P : Option Entries → Type 0 = λ fs. LoadGives fs [] setup r in
@@ -170,30 +170,3 @@ both o p files input words first second one other told same (inr (inr (c, e, h))
 pub one-output : OneOutput
 one-output o p files input words first second one other told same c d h k =
     both o p files input words first second one other told same (ending o words first one c h) (ending p words second other d k)
-
--- a setup that loads isn't refused
-loads-not-refused : (o : Outside) (files : Entries) (input : List ℕ) (words : List (List ℕ)) (job : Job) (loaded : List Kernel) (cause : LineFault) (bytes : List ℕ) → IsTold o files input
-    → AskFor words job → LoadGives (Some files) [] job.setup (Ok loaded) → SetupRefused o words cause bytes → ⊥
-loads-not-refused o files input words job loaded cause bytes told asked given k =
-    let P : List ℕ → Type 0 = λ name. LoadGives (Some files) [] name (Ok loaded) in
-    ok-not-err loaded cause (one-load files [] k.job.setup (Ok loaded) (Err cause)
-    (subst P (ap (λ (j : Job). j.setup) (one-job words job k.job asked k.asked)) given)
-    (given-of o files k.job.setup k.job.setup (Err cause) told.files_told refl k.given)
-    (ok-no-fault loaded) (refused-no-fault o files input cause told k.caused))
-
-not-long : (o : Outside) (files : Entries) (input : List ℕ) → IsTold o files input → length input ≤ 67_108_864 → IsLongInput o.input → ⊥
-not-long o files input told short h =
-    let many : 67_108_864 < length input = subst IsLongInput told.input_told h in
-    absurd (omega (arith, short, many))
-
--- a good run is answered, unless it is cut off
-pub good-run : GoodRunIsAnswered
-good-run o files input words job loaded Done bytes told asked given short h = tt
-good-run o files input words job loaded SomeRefused bytes told asked given short h = tt
-good-run o files input words job loaded (BadWords word.NotBuilt) bytes told asked given short h = h.none job asked
-good-run o files input words job loaded (BadWords word.OutOfMemory) bytes told asked given short h = h
-good-run o files input words job loaded (BadSetup cause) bytes told asked given short h = loads-not-refused o files input words job loaded cause bytes told asked given h
-good-run o files input words job loaded ReadFault bytes told asked given short h = tt
-good-run o files input words job loaded WriteFault bytes told asked given short h = tt
-good-run o files input words job loaded OutOfMemory bytes told asked given short h = tt
-good-run o files input words job loaded InputTooLong bytes told asked given short h = not-long o files input told short h.1

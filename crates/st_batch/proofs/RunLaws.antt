@@ -129,12 +129,12 @@ setup_line cause = codes "bad setup " ++ (refusal_text cause ++ (10 ∷ []))
 
 -- a setup that was refused
 pub setup-outcome : (o : Outside) (words : List (List ℕ)) (job : Job) (cause : LineFault) (status : Status) (taken after : Option (List ℕ))
-    → AskFor words job → LoadGives o.files [] job.setup (Err cause) → AreCounted o.before o.now (Refused cause ∷ [])
+    → AskFor words job → LoadGives o.files [] job.setup (Err cause) → AreCounted o.before o.now (Refused cause ∷ []) → o.left ≡ o.input
     → Delivers (setup_line cause) (BadSetup cause) taken after status → Took taken after (Outcome o words status)
-setup-outcome o words job cause status taken after asked given counted d =
+setup-outcome o words job cause status taken after asked given counted unread d =
     delivered o words (setup_line cause) (BadSetup cause) status taken after
-    (record { job = job; asked = asked; given = given; caused = counted.faults; written = refl })
-    (λ front rest e. inr (rest, inr (cause, record { job = job; asked = asked; given = given; caused = counted.faults; written = sym e })))
+    (record { job = job; asked = asked; given = given; caused = counted.faults; unread = unread; written = refl })
+    (λ front rest e. inr (rest, inr (cause, record { job = job; asked = asked; given = given; caused = counted.faults; unread = unread; written = sym e })))
     d
 
 -- words that were refused
@@ -168,9 +168,9 @@ no-fault line.BadTime before now not later = omega (arith, later)
 no-fault line.OutOfMemory before now not later = omega (arith, later)
 
 -- where nothing was written there is an output that begins so
-setup-begins : (o : Outside) (words : List (List ℕ)) (job : Job) (r : Result (List Kernel) LineFault) → AskFor words job → AreLater o.before o.now
+setup-begins : (o : Outside) (words : List (List ℕ)) (job : Job) (r : Result (List Kernel) LineFault) → AskFor words job → AreLater o.before o.now → o.left ≡ o.input
     → IsSound o.files [] job.setup r → BeginsAllowed o words []
-setup-begins o words job (Ok loaded) asked l (given, not) =
+setup-begins o words job (Ok loaded) asked l unread (given, not) =
     let ls = some-lines job.work o.input in
     inl (record {
       job = job;
@@ -183,26 +183,26 @@ setup-begins o words job (Ok loaded) asked l (given, not) =
       session = record { loaded = loaded; after = loaded; setup = given; answered = refl; counted = record { misses = omega (arith, l.misses); faults = omega (arith, l.faults); taken = omega (arith, l.taken) } };
       written = refl;
     })
-setup-begins o words job (Err cause) asked l (given, not) =
-    inr (setup_line cause, inr (cause, record { job = job; asked = asked; given = given; caused = no-fault cause o.before.faults o.now.faults not l.faults; written = refl }))
+setup-begins o words job (Err cause) asked l unread (given, not) =
+    inr (setup_line cause, inr (cause, record { job = job; asked = asked; given = given; caused = no-fault cause o.before.faults o.now.faults not l.faults; unread = unread; written = refl }))
 
-job-begins : (o : Outside) (words : List (List ℕ)) (job : Job) → AskFor words job → AreLater o.before o.now → BeginsAllowed o words []
-job-begins o words job asked l =
+job-begins : (o : Outside) (words : List (List ℕ)) (job : Job) → AskFor words job → AreLater o.before o.now → o.left ≡ o.input → BeginsAllowed o words []
+job-begins o words job asked l unread =
     let r = some-load o.files [] job.setup in
-    setup-begins o words job r.0 asked l r.1
+    setup-begins o words job r.0 asked l unread r.1
 
 nothing : (o : Outside) (words : List (List ℕ)) (taken : Option (List ℕ)) → BeginsAllowed o words [] → Took taken taken (Outcome o words OutOfMemory)
 nothing o words taken b = ([], Appends-nil taken, b)
 
 -- where memory ran out before anything was written
-pub nothing-of-job : (o : Outside) (words : List (List ℕ)) (job : Job) (taken : Option (List ℕ)) → AskFor words job → AreLater o.before o.now
+pub nothing-of-job : (o : Outside) (words : List (List ℕ)) (job : Job) (taken : Option (List ℕ)) → AskFor words job → AreLater o.before o.now → o.left ≡ o.input
     → Took taken taken (Outcome o words OutOfMemory)
-nothing-of-job o words job taken asked l = nothing o words taken (job-begins o words job asked l)
+nothing-of-job o words job taken asked l unread = nothing o words taken (job-begins o words job asked l unread)
 
 pub nothing-of-words : (o : Outside) (words : List (List ℕ)) (taken : Option (List ℕ)) → ((job : Job) × AskFor words job) ⊎ AskForNone words
-    → AreLater o.before o.now → Took taken taken (Outcome o words OutOfMemory)
-nothing-of-words o words taken (inl (job, asked)) l = nothing-of-job o words job taken asked l
-nothing-of-words o words taken (inr none) l = nothing o words taken (inr (codes "bad words NOT_BUILT\n", inl (record { none = none; written = refl })))
+    → AreLater o.before o.now → o.left ≡ o.input → Took taken taken (Outcome o words OutOfMemory)
+nothing-of-words o words taken (inl (job, asked)) l unread = nothing-of-job o words job taken asked l unread
+nothing-of-words o words taken (inr none) l unread = nothing o words taken (inr (codes "bad words NOT_BUILT\n", inl (record { none = none; written = refl })))
 
 -- the causes of a setup that was refused, as counts
 pub setup-counted : (fault : LineFault) (before now : FileCounts) → fault ≢ line.OutOfMemory → AreLater before now → IsLoadCaused fault before now → AreCounted before now (Refused fault ∷ [])

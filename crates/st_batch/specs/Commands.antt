@@ -27,6 +27,10 @@ IsUnload text name = NamesFile (codes "$unload") text name
 abbrev pub IsClear : List ℕ → Type 0
 IsClear text = text ≡ codes "$clear"
 
+-- the text loads no file
+abbrev pub IsNoLoad : List ℕ → Type 0
+IsNoLoad text = (name : List ℕ) → IsLoad text name → ⊥
+
 -- whether a text begins with `$` (36), as commands do and times don't
 abbrev pub begins_command : List ℕ → Bool
 begins_command [] = false
@@ -34,6 +38,6 @@ begins_command (b ∷ bs) = b == 36
 
 -- the text is none of the three commands
 pub record IsNoCommand (text : List ℕ) : Type 0 where
-  pub load : (name : List ℕ) → IsLoad text name → ⊥
+  pub load : IsNoLoad text
   pub unload : (name : List ℕ) → IsUnload text name → ⊥
   pub clear : text ≢ codes "$clear"

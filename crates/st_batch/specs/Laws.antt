@@ -10,7 +10,7 @@ use Rattle.st_batch.specs.declared.status.Status.{Status}
 use Rattle.st_batch.specs.declared.status.Status.TheVariants.{Done, SomeRefused, BadWords, BadSetup, InputTooLong}
 use Rattle.st_batch.specs.Causes.{is_file_fault}
 use Rattle.st_batch.specs.Load.{LoadGives}
-use Rattle.st_batch.specs.Outcome.{Outside, Outcome}
+use Rattle.st_batch.specs.Outcome.{HaveEnded, Outcome, Outside}
 use Rattle.st_batch.specs.Session.{MayAnswer, RunsTo}
 use Rattle.st_batch.specs.Words.{AskFor}
 
@@ -50,6 +50,11 @@ OneAnswer =
     → MayAnswer (Some files) loaded line answer after → MayAnswer (Some files) loaded line other next
     → answer ≢ Refused FileFault → other ≢ Refused FileFault → (answer ≡ other) × (after ≡ next)
 
+-- What was read of an input that tells its bytes ends one list of lines.
+abbrev pub OneEnding : Type 0
+OneEnding =
+    (input left : List ℕ) (lines other : List (List ℕ)) → HaveEnded (Some input) (Some left) lines → HaveEnded (Some input) (Some left) other → lines ≡ other
+
 -- Answers to some first lines go on to answers to all lines, and those to the later lines name no fault of the files.
 abbrev pub EveryBeginningGoesOn : Type 0
 EveryBeginningGoesOn =
@@ -57,16 +62,19 @@ EveryBeginningGoesOn =
     → RunsTo files loaded lines answers after
     → (later : List Answer) × ((last : List Kernel) × RunsTo files loaded (lines ++ more) (answers ++ later) last × (count_by is_file_fault later ≡ 0))
 
--- all lines were answered, or a fault of the input or the output or want of memory cut the run off
+-- all lines were answered, or the setup met a fault of the files, or a fault of the input or the output or want of memory cut
+-- the run off
 abbrev pub IsAnsweredOrCut : Status → Type 0
 IsAnsweredOrCut (BadWords fault) = ⊥
+IsAnsweredOrCut (BadSetup FileFault) = ⊤
 IsAnsweredOrCut (BadSetup cause) = ⊥
 IsAnsweredOrCut InputTooLong = ⊥
 IsAnsweredOrCut status = ⊤
 
--- Words that ask for a job, a setup that loads without a fault of the files, and an input that isn't too long are answered, unless the run is cut off.
+-- Words that ask for a job, a setup that loads by the bytes of the files, and an input that isn't too long are answered, unless
+-- the setup meets a fault of the files or the run is cut off.
 abbrev pub GoodRunIsAnswered : Type 0
 GoodRunIsAnswered =
     (o : Outside) (files : Entries) (input : List ℕ) (words : List (List ℕ)) (job : Job) (loaded : List Kernel) (status : Status) (bytes : List ℕ)
-    → IsTold o files input → AskFor words job → LoadGives (Some files) [] job.setup (Ok loaded) → length input ≤ 67_108_864
+    → o.files ≡ Some files → o.input ≡ Some input → AskFor words job → LoadGives (Some files) [] job.setup (Ok loaded) → length input ≤ 67_108_864
     → Outcome o words status bytes → IsAnsweredOrCut status

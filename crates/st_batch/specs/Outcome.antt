@@ -67,12 +67,13 @@ pub record WordsRefused (words : List (List ℕ)) (bytes : List ℕ) : Type 0 wh
   pub none : AskForNone words
   pub written : bytes ≡ codes "bad words NOT_BUILT\n"
 
--- the setup was refused
+-- the setup was refused, and nothing read of the input
 pub record SetupRefused (o : Outside) (words : List (List ℕ)) (cause : LineFault) (bytes : List ℕ) : Type 0 where
   pub job : Job
   pub asked : AskFor words job
   pub given : LoadGives o.files [] job.setup (Err cause)
   pub caused : RoseBy (count_by is_file_fault (Refused cause ∷ [])) o.before.faults o.now.faults
+  pub unread : o.left ≡ o.input
   pub written : bytes ≡ codes "bad setup " ++ (refusal_text cause ++ (10 ∷ []))
 
 -- some first lines were answered, and a beginning of their answers was written

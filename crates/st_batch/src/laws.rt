@@ -1,6 +1,6 @@
 //! Laws of the definitions by which `run` is told. Each function does nothing; its contract is the law.
 
-ghost use Rattle.st_batch.specs.Laws.{EveryBeginningGoesOn, EveryLineHasAnswer, GoodRunIsAnswered, OneAnswer, OneOutput};
+ghost use Rattle.st_batch.specs.Laws.{EveryBeginningGoesOn, EveryLineHasAnswer, GoodRunIsAnswered, OneAnswer, OneEnding, OneOutput};
 
 /// Where the files and the input tell their bytes and the files had no fault there is at most one whole output, so that
 /// `run`, where it isn't cut off, is then a function of the words, the files and the input.
@@ -26,9 +26,15 @@ pub fn every_beginning_goes_on()
     ensures { EveryBeginningGoesOn }
 {}
 
-/// Where the files and the input tell their bytes and the files had no fault, words that ask for a conversion, a setup
-/// that loads and an input that isn't too long are answered: only a fault of the input or the output, or want of memory,
-/// cuts the run off.
+/// Where the files and the input tell their bytes, words that ask for a conversion, a setup that loads by these bytes and
+/// an input that isn't too long are answered, unless the setup met a fault of the files: only a fault of the input or the
+/// output, or want of memory, cuts the run off.
 pub fn good_run_is_answered()
     ensures { GoodRunIsAnswered }
+{}
+
+/// Where the input tells its bytes, what was read of it ends one list of lines. So a run that ended by a failed read has
+/// written the answers to these and no others.
+pub fn one_ending()
+    ensures { OneEnding }
 {}

@@ -4,7 +4,7 @@ ghost use Rattle.std.specs.Prelude.{◌≡◌, ◌≤◌, [], true, false, Ok, I
 ghost use Rattle.st_text.specs.Lines.{trimmed};
 ghost use Rattle.st_outside.specs.Causes.{AreLater};
 ghost use Rattle.st_batch.specs.Causes.{IsAnswerCaused, IsLoadCaused};
-ghost use Rattle.st_batch.specs.Commands.{begins_command};
+ghost use Rattle.st_batch.specs.Commands.{IsNoLoad, begins_command};
 ghost use Rattle.st_batch.specs.Load.{LoadGives, LoadRefuses};
 ghost use Rattle.st_batch.specs.Outcome.{is_refused};
 ghost use Rattle.st_batch.specs.Session.{MayAnswer};
@@ -104,6 +104,7 @@ impl Session {
         ensures closed { F.opened files.old ≡ false → F.opened files.new ≡ false }
         ensures map { F.map files.new ≡ F.map files.old }
         ensures later { AreLater (F.counts files.old) (F.counts files.new) }
+        ensures unread { IsNoLoad (trimmed line.now) → F.counts files.new ≡ F.counts files.old }
     {
         if is_command(trim(line)) {
             self.command_line(line, files)
@@ -132,6 +133,7 @@ impl Session {
         ensures closed { F.opened files.old ≡ false → F.opened files.new ≡ false }
         ensures map { F.map files.new ≡ F.map files.old }
         ensures later { AreLater (F.counts files.old) (F.counts files.new) }
+        ensures unread { IsNoLoad (trimmed line.now) → F.counts files.new ≡ F.counts files.old }
     {
         answer_command_line(self.alloc, &mut self.pool, line, files)
     }
@@ -178,6 +180,7 @@ fn answer_command_line<F: Files>(
     ensures closed { F.opened files.old ≡ false → F.opened files.new ≡ false }
     ensures map { F.map files.new ≡ F.map files.old }
     ensures later { AreLater (F.counts files.old) (F.counts files.new) }
+    ensures unread { IsNoLoad (trimmed line.now) → F.counts files.new ≡ F.counts files.old }
 {
     if line.len() > MAX_LINE {
         return Ok(Answer::Refused(LineFault::LineTooLong));
@@ -200,6 +203,7 @@ fn answer_command<F: Files>(
     ensures closed { F.opened files.old ≡ false → F.opened files.new ≡ false }
     ensures map { F.map files.new ≡ F.map files.old }
     ensures later { AreLater (F.counts files.old) (F.counts files.new) }
+    ensures unread { IsNoLoad text.now → F.counts files.new ≡ F.counts files.old }
 {
     if let Some(name) = name_behind(b"$load", text) {
         return load_named(alloc, pool, name, files);

@@ -1,10 +1,10 @@
 //! Files in memory some of whose calls fail.
 
-ghost use Rattle.std.specs.Prelude.{◌≡◌, ◌↔◌, ◌≤◌, true, false, None, Some, IsTrue, IsErr, IsErrOf, IsOk, IsSome, OnOk, OnErr};
+ghost use Rattle.std.specs.Prelude.{◌≡◌, ◌↔◌, ◌&&◌, not, is_none, ◌≤◌, true, false, None, Some, IsTrue, IsErr, IsErrOf, IsOk, IsSome, OnOk, OnErr};
 ghost use Rattle.std.specs.Io.{ReadsAtMost};
 ghost use Rattle.std.specs.Io.KnownBytes.{ReadConsumes};
 ghost use Rattle.st_outside.specs.Calls.{fails_next, IsFresh, Counted};
-ghost use Rattle.st_outside.specs.Causes.{AreLater, Counts, Rose, no_counts};
+ghost use Rattle.st_outside.specs.Causes.{AreLater, Counts, no_counts, raised_if};
 ghost use Rattle.st_outside.specs.Entries.{Opens, bytes_of};
 
 use crate::calls::Calls;
@@ -64,7 +64,9 @@ impl Files for MemFiles {
             × (bytes_of name.now (entries_of self.old) ≡ None)) }
         ensures found { IsOk result ↔ ((fails_next (calls_of self.old) ≡ false)
             × IsSome (bytes_of name.now (entries_of self.old))) }
-        ensures missed { IsErrOf result OpenFault.Missing → Rose (counts_of self.old).misses (counts_of self.new).misses }
+        ensures misses { (counts_of self.new).misses ≡ raised_if
+            (not (fails_next (calls_of self.old)) && is_none (bytes_of name.now (entries_of self.old)))
+            (counts_of self.old).misses }
         ensures counted { Counted (calls_of self.old) (calls_of self.new) }
     {
         if self.calls.fails() {

@@ -34,9 +34,9 @@ const ROWS: [(&str, &str, Status, &str); 10] = [
     ),
     (
         "files without an assignment, and one that is cut",
-        "$load empty.ker\n$load plain.ker\n$load cut.ker\n$unload empty.ker\n$unload cut.ker\n",
+        "$load empty.ker\n$load plain.ker\n$load cut.ker\n2017-06-01T00:00:00\n$unload empty.ker\n$unload cut.ker\n",
         Status::SomeRefused,
-        "loaded\nloaded\nrefused KERNEL_TEXT 2 UNCLOSED\nunloaded\nrefused NOT_LOADED\n",
+        "loaded\nloaded\nrefused KERNEL_TEXT 2 UNCLOSED\n549547237.000000\nunloaded\nrefused NOT_LOADED\n",
     ),
     (
         "names that are not there, and no commands",

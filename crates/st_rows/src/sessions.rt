@@ -43,6 +43,21 @@ fn opens_a_setup(rt: HostRuntime) -> Result<(), Fail> {
 }
 
 #[test]
+fn opens_a_setup_without_an_assignment(rt: HostRuntime) -> Result<(), Fail> {
+    let alloc = rt.alloc();
+    let mut kernels = SafeFiles::new(folder(alloc)?);
+    for setup in [b"empty.ker".as_slice(), b"plain.ker"] {
+        let Ok(session) = Session::open(alloc, job(alloc, setup)?, &mut kernels) else {
+            assert!(rt; false);
+            return Ok(());
+        };
+        assert_eq!(rt; session.pool().len(), 1);
+        assert_eq!(rt; session.pool().kind(b"DELTET/DELTA_AT"), Kind::Absent);
+    }
+    Ok(())
+}
+
+#[test]
 fn refuses_a_setup(rt: HostRuntime) -> Result<(), Fail> {
     let alloc = rt.alloc();
     let mut kernels = SafeFiles::new(folder(alloc)?);

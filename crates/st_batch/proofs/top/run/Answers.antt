@@ -1,4 +1,4 @@
-use Rattle.std.proofs.Common.{Err, map, string_bytes, ap}
+use Rattle.std.proofs.Common.{Err, map, string_bytes, ap, refl}
 use Rattle.st_outside.specs.Causes.{FileCounts}
 use Rattle.st_batch.proofs.ProgressLaws.{later-same}
 use Rattle.st_batch.proofs.RunLaws.{outside, words-outcome, nothing-of-words, no-input, reads-all, job-fits}
@@ -40,4 +40,4 @@ pub returns-in-Err-OutOfMemory-clause-told : goal.returns-in-Err-OutOfMemory-cla
 returns-in-Err-OutOfMemory-clause-told g c =
     let still : FileCounts = g.F.Files.counts c.args.files.now in
     nothing-of-words (outside (g.F.Files.map c.args.files.now) (g.I.Source.left c.args.input.now) (g.I.Source.left c.args.input.now) still still)
-    (map string_bytes c.args.words.now) (g.O.Sink.taken c.args.out.now) (told-job (map string_bytes c.args.words.now)) (later-same _)
+    (map string_bytes c.args.words.now) (g.O.Sink.taken c.args.out.now) (told-job (map string_bytes c.args.words.now)) (later-same _) refl

@@ -35,7 +35,7 @@ returns-in-Err-OutOfMemory-clause-told g c = λ words asked.
     nothing-of-job (outside (g.F.Files.map c.args.files.now) (g.I.Source.left c.args.input.now) (g.I.Source.left c.args.input.now)
     (g.F.Files.counts c.args.files.now)
     (g.F.Files.counts c.begin.new.files))
-    words c.args.job.now (g.O.Sink.taken c.args.out.now) asked c.in-Err-OutOfMemory.ensures.later
+    words c.args.job.now (g.O.Sink.taken c.args.out.now) asked c.in-Err-OutOfMemory.ensures.later refl
 
 pub returns-in-Err : goal.returns-in-Err
 returns-in-Err g c =
@@ -50,7 +50,7 @@ returns-in-Err g c =
     let given = load-refused (g.F.Files.map c.args.files.now) [] c.args.job.now.setup fault not (subst P c.as_slice.ensures c.in-Err.ensures.err) in
     let counted = setup-counted fault before now not c.in-Err.ensures.later c.in-Err.ensures.cause in
     record {
-      told = λ words asked. setup-outcome o words c.args.job.now fault c.refuse_setup.result (g.O.Sink.taken c.args.out.now) (g.O.Sink.taken c.refuse_setup.new.out) asked given counted d;
+      told = λ words asked. setup-outcome o words c.args.job.now fault c.refuse_setup.result (g.O.Sink.taken c.args.out.now) (g.O.Sink.taken c.refuse_setup.new.out) asked given counted refl d;
       of_job = delivered-of-job (setup_line fault) fault c.refuse_setup.result (g.O.Sink.taken c.args.out.now) (g.O.Sink.taken c.refuse_setup.new.out) d;
       causes = delivered-caused (setup_line fault) fault c.refuse_setup.result (g.O.Sink.taken c.args.out.now) (g.O.Sink.taken c.refuse_setup.new.out) before now (setup-caused fault before now not c.in-Err.ensures.cause) d;
       write_fault = c.refuse_setup.ensures.write_fault;
