@@ -95,7 +95,7 @@ mod tests {
     // Angles in units, 500 to either side; how often they are halved; and the sine and the cosine in their midst, to
     // twenty-four decimals by mpmath at sixty digits.
     #[test]
-    fn encloses_large_angles(rt: HostRuntime) {
+    fn encloses_small_angles(rt: HostRuntime) {
         encloses(
             &rt,
             Enc { lo: -500, hi: 500 },
@@ -123,6 +123,10 @@ mod tests {
             -909_297_426_825_681_903_469_438,
             -416_146_836_547_141_932_348_855,
         );
+    }
+
+    #[test]
+    fn encloses_halved_angles(rt: HostRuntime) {
         encloses(
             &rt,
             Enc {
