@@ -149,6 +149,40 @@ fn a_thousand_kernels(rt: HostRuntime) -> Result<(), Fail> {
     Ok(())
 }
 
+/// A kernel that gives a variable this many thousand values.
+fn thousands_of_values(rt: &HostRuntime, count: usize) -> Result<Vec<u8>, Fail> {
+    let mut kernel = repeated(rt, "\\begindata\nX = (\n", 1)?;
+    let mut line = repeated(rt, "1 ", 250)?;
+    line.push(b'\n')?;
+    for _ in 0..count {
+        for _ in 0..4 {
+            kernel.extend_from_slice(line.as_slice())?;
+        }
+    }
+    kernel.extend_from_slice(b")\n")?;
+    Ok(kernel)
+}
+
+#[test]
+fn two_million_values(rt: HostRuntime) -> Result<(), Fail> {
+    let alloc = rt.alloc();
+    let words = batch(alloc)?;
+    let mut map = folder(alloc)?;
+    map.put(b"thousand.ker", thousands_of_values(&rt, 1)?)?;
+    map.put(b"million.ker", thousands_of_values(&rt, 1000)?)?;
+    let lines =
+        b"$load million.ker\n$load million.ker\n$unload naif.tls\n$load million.ker\n$load thousand.ker\n";
+    let mut kernels = SafeFiles::new(map);
+    let mut input = SafeSource::new(Vec::from_slice(alloc, lines)?);
+    let mut out = SafeSink::new(alloc);
+    let status = run(alloc, words.as_slice(), &mut kernels, &mut input, &mut out);
+    assert_eq!(rt; status, Status::SomeRefused);
+    // The setup's own values leave no room for the second million.
+    let wanted = b"loaded\nrefused TOO_MANY_VALUES\nunloaded\nloaded\nrefused TOO_MANY_VALUES\n";
+    assert_eq!(rt; out.bytes(), wanted.as_slice());
+    Ok(())
+}
+
 #[test]
 fn lines_cut_by_the_reads(rt: HostRuntime) -> Result<(), Fail> {
     // 84,000 bytes, of which a read gives at most 65,536.
