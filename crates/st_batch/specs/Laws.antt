@@ -62,8 +62,8 @@ EveryBeginningGoesOn =
     → RunsTo files loaded lines answers after
     → (later : List Answer) × ((last : List Kernel) × RunsTo files loaded (lines ++ more) (answers ++ later) last × (count_by is_file_fault later ≡ 0))
 
--- all lines were answered, or the setup met a fault of the files, or a fault of the input or the output or want of memory cut
--- the run off
+-- all lines were answered, or the setup was refused for a fault of the files, or a fault of the input or the output or want of
+-- memory cut the run off
 abbrev pub IsAnsweredOrCut : Status → Type 0
 IsAnsweredOrCut (BadWords fault) = ⊥
 IsAnsweredOrCut (BadSetup FileFault) = ⊤
@@ -72,7 +72,7 @@ IsAnsweredOrCut InputTooLong = ⊥
 IsAnsweredOrCut status = ⊤
 
 -- Words that ask for a job, a setup that loads by the bytes of the files, and an input that isn't too long are answered, unless
--- the setup meets a fault of the files or the run is cut off.
+-- the setup is refused for a fault of the files or the run is cut off.
 abbrev pub GoodRunIsAnswered : Type 0
 GoodRunIsAnswered =
     (o : Outside) (files : Entries) (input : List ℕ) (words : List (List ℕ)) (job : Job) (loaded : List Kernel) (status : Status) (bytes : List ℕ)

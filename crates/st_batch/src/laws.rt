@@ -15,7 +15,7 @@ pub fn every_line_has_an_answer()
 
 /// Where the files tell their bytes a line has at most one answer, with one loaded list after it, that names no fault of
 /// the files. So a text that stands for a time is converted wherever there is a table, and a kernel within the
-/// limits is loaded.
+/// limits is loaded, unless a fault of the files is named.
 pub fn one_answer()
     ensures { OneAnswer }
 {}
@@ -27,8 +27,8 @@ pub fn every_beginning_goes_on()
 {}
 
 /// Where the files and the input tell their bytes, words that ask for a conversion, a setup that loads by these bytes and
-/// an input that isn't too long are answered, unless the setup met a fault of the files: only a fault of the input or the
-/// output, or want of memory, cuts the run off.
+/// an input that isn't too long are answered, unless the setup is refused for a fault of the files: only a fault of the
+/// input or the output, or want of memory, cuts the run off.
 pub fn good_run_is_answered()
     ensures { GoodRunIsAnswered }
 {}

@@ -6,7 +6,7 @@ use st_outside::{MemFiles, MemSink, MemSource, SafeFiles, SafeSink, SafeSource};
 use std::test::Fail;
 
 /// A name, the input, the status and the output.
-const ROWS: [(&str, &str, Status, &str); 10] = [
+const ROWS: [(&str, &str, Status, &str); 11] = [
     ("no lines", "", Status::Done, ""),
     (
         "a leapseconds kernel for some time",
@@ -19,6 +19,12 @@ const ROWS: [(&str, &str, Status, &str); 10] = [
         "$load more.tls\n2030-06-01T00:00:00\n$load short.tls\n2030-06-01T00:00:00\n$unload more.tls\n2030-06-01T00:00:00\n",
         Status::Done,
         "loaded\n959774438.000000\nloaded\n959774436.000000\nunloaded\n959774436.000000\n",
+    ),
+    (
+        "a pair is added to nothing, and is the only one",
+        "$clear\n$load more.tls\n2029-12-31T23:59:59\n2030-06-01T00:00:00\n",
+        Status::Done,
+        "cleared\nloaded\n946728036.000000\n959774438.000000\n",
     ),
     (
         "the last of a name goes first",
