@@ -2,11 +2,12 @@
 use Rattle.std.proofs.Common.{◌≡◌, ◌⊎◌, true, ◌&&◌, inl, inr, refl, sym, ap, ◌∙◌, subst, arith, List, ◌++◌, ℕ, ℤ, ◌≤ℤ◌, int_le, Option, Some, None, Result, Ok, Err}
 use Rattle.std.proofs.lemmas.Bool.{cases_Bool}
 use Rattle.std.proofs.lemmas.Int.{ints}
-use Rattle.st_dates.specs.AtDate.{ReadsAtDate, Written, Spells, IsMomentOf, IsInRange, moment}
+use Rattle.st_dates.specs.AtDate.{ReadsAtDate, Written, Spells, IsMomentOf, moment}
 use Rattle.st_dates.specs.AtDateMachine.{at_date_of, dated, counted, ranged, parts_of}
 use Rattle.st_dates.specs.DayText.{day_spelling, IsDayOf}
 use Rattle.st_dates.specs.DayTextMachine.{day_of_text, number_in}
-use Rattle.st_dates.specs.ScanMachine.{◌>>=◌}
+use Rattle.st_text.specs.Scan.{◌>>=◌}
+use Rattle.st_dates.specs.Range.{IsInRange}
 use Rattle.st_dates.specs.TimeText.{time_spelling, time_units}
 use Rattle.st_dates.specs.TimeTextMachine.{time_of_text}
 use Rattle.st_dates.specs.declared.day_text.CalendarDate.{CalendarDate}
@@ -15,18 +16,13 @@ use Rattle.st_dates.specs.declared.fault.DateFault.TheVariants.{Form, NoSuchDay,
 use Rattle.st_dates.specs.declared.label.TheConstants.{FIRST, LAST}
 use Rattle.st_dates.proofs.DayCuts.{day_cut}
 use Rattle.st_dates.proofs.DayForms.{day_in, day_found, day_is_found, day_read}
-use Rattle.st_dates.proofs.Scans.{some_same, bound}
+use Rattle.std.proofs.lemmas.Option.{same_Some}
+use Rattle.st_text.proofs.Logic.{bound, tested, passed}
 use Rattle.st_dates.proofs.TimeCuts.{time_cut}
 use Rattle.st_dates.proofs.TimeForms.{time_read, time_stops}
 
-tested : (low high z : ℤ) → (low ≤ℤ z) × (z ≤ℤ high) → (int_le low z && int_le z high) ≡ true
-tested low high z h = grind (arith, ints)
-
-passed : (low high z : ℤ) → (int_le low z && int_le z high) ≡ true → (low ≤ℤ z) × (z ≤ℤ high)
-passed low high z h = grind (arith, ints)
-
 in_range : (z : ℤ) → IsInRange z → ranged z ≡ Ok z
-in_range z h = rw (tested FIRST LAST z h) refl
+in_range z h = rw (tested FIRST LAST z h.0 h.1) refl
 
 out_of_range : (z : ℤ) → (IsInRange z → ⊥) → ranged z ≡ Err OutOfRange
 out_of_range z h =
@@ -39,7 +35,7 @@ in_or_out : (z : ℤ) → IsInRange z ⊎ (IsInRange z → ⊥)
 in_or_out z =
     elim (cases_Bool (int_le FIRST z && int_le z LAST)) [
       | inl t ↦ inl (passed FIRST LAST z t)
-      | inr f ↦ inr (λ h. absurd (let t = tested FIRST LAST z h in cc))
+      | inr f ↦ inr (λ h. absurd (let t = tested FIRST LAST z h.0 h.1 in cc))
     ]
 
 -- what a text was read to, and what it spells
@@ -56,7 +52,7 @@ read_is_spelled text p e =
     let next : CalendarDate × List ℕ → Option (CalendarDate × ℕ) = λ q. time_of_text q.1 >>= λ units. Some (q.0, units) in
     let d = bound (day_of_text text) next p e in
     let t = bound (time_of_text d.0.1) (last d.0.0) p d.2 in
-    let same : ◌≡◌ {A = CalendarDate × ℕ} (d.0.0, t.0) p = some_same (d.0.0, t.0) p t.2 in
+    let same : ◌≡◌ {A = CalendarDate × ℕ} (d.0.0, t.0) p = same_Some (d.0.0, t.0) p t.2 in
     let day = day_cut text d.0 d.1 in
     let time = time_cut d.0.1 t.0 t.1 in
     record {

@@ -4,16 +4,18 @@ use Rattle.std.proofs.lemmas.Bool.{cases_Bool}
 use Rattle.std.proofs.lemmas.Bool.Decides.{nat_tests}
 use Rattle.std.specs.Char.{is_ascii_digit}
 use Rattle.st_text.specs.Bytes.{number_of}
-use Rattle.st_dates.specs.DayText.{DayText, numeric, named, day_first, of_year, day_spelling, AreDigits, AreDayParts}
-use Rattle.st_dates.specs.DayTextMachine.{month_of_name, with_day, with_year, year_first, month_next, day_of_text, number_in}
+use Rattle.st_dates.specs.DayText.{DayText, numeric, named, day_first, of_year, day_spelling, AreDayParts}
+use Rattle.st_dates.specs.DayTextMachine.{is_no_dash, month_of_name, with_day, with_year, year_first, month_next, day_of_text, number_in}
 use Rattle.st_dates.specs.Names.{NamesMonth}
 use Rattle.st_dates.specs.NamesMachine.{month_named}
-use Rattle.st_dates.specs.ScanMachine.{◌>>=◌, leading, behind, digits, past_digits, is_no_dash, after, is_digits}
+use Rattle.st_text.specs.Scan.{IsDigitRun, ◌>>=◌, leading, behind, leading_digits, past_digits, after, is_digit_run}
 use Rattle.st_dates.specs.declared.day_text.CalendarDate.{CalendarDate}
 use Rattle.st_dates.specs.declared.day_text.CalendarDate.TheVariants.{OfMonth, OfYear}
 use Rattle.st_dates.proofs.NameLaws.{only, names}
-use Rattle.st_dates.proofs.Runs.{joined, leading_passes}
-use Rattle.st_dates.proofs.Scans.{some_same, bound, after_is, digits_tested, glued_two, glued_three}
+use Rattle.std.proofs.lemmas.Option.{same_Some}
+use Rattle.st_text.proofs.Logic.{bound}
+use Rattle.st_text.proofs.Runs.{joined, leading_passes, after_is, digits_tested}
+use Rattle.st_dates.proofs.Scans.{glued_two, glued_three}
 use Rattle.st_dates.proofs.DayForms.{day_in}
 
 -- what a text was cut into that was read to a day
@@ -25,20 +27,20 @@ pub record Cut (text rest : List ℕ) (date : CalendarDate) : Type 0 where
 
 record DayCut (y m : ℕ) (text : List ℕ) (p : CalendarDate × List ℕ) : Type 0 where
   day : List ℕ
-  day_digits : AreDigits 1 2 day
+  day_digits : IsDigitRun 1 2 day
   whole : text ≡ day ++ p.1
   date_is : p.0 ≡ OfMonth y m (number_of day)
 
 with_day_cut : (y m : ℕ) (text : List ℕ) (p : CalendarDate × List ℕ) → with_day y m text ≡ Some p → DayCut y m text p
 unfolding with_day
 with_day_cut y m text p e =
-    elim (cases_Bool (is_digits 1 2 (digits text))) [
+    elim (cases_Bool (is_digit_run 1 2 (leading_digits text))) [
       | inl h ↦
-          let same : ◌≡◌ {A = CalendarDate × List ℕ} (OfMonth y m (number_of (digits text)), past_digits text) p = some_same _ p (rw h at e) in
+          let same : ◌≡◌ {A = CalendarDate × List ℕ} (OfMonth y m (number_of (leading_digits text)), past_digits text) p = same_Some _ p (rw h at e) in
           record {
-            day = digits text;
-            day_digits = digits_tested 1 2 (digits text) h;
-            whole = sym (joined is_ascii_digit text) ∙ ap (λ (q : CalendarDate × List ℕ). digits text ++ q.1) same;
+            day = leading_digits text;
+            day_digits = digits_tested 1 2 (leading_digits text) h;
+            whole = sym (joined is_ascii_digit text) ∙ ap (λ (q : CalendarDate × List ℕ). leading_digits text ++ q.1) same;
             date_is = ap (λ (q : CalendarDate × List ℕ). q.0) (sym same);
           }
       | inr h ↦ absurd (let no = rw h at e in cc)
@@ -46,7 +48,7 @@ with_day_cut y m text p e =
 
 record YearCut (m d : ℕ) (text : List ℕ) (p : CalendarDate × List ℕ) : Type 0 where
   year : List ℕ
-  year_digits : AreDigits 4 4 year
+  year_digits : IsDigitRun 4 4 year
   whole : text ≡ year ++ p.1
   date_is : p.0 ≡ OfMonth (number_of year) m d
 
@@ -57,19 +59,19 @@ is_three : (n : ℕ) → (n == 3) ≡ true → n ≡ 3
 is_three n h = grind (arith, nat_tests)
 
 -- so many digits that a text begins with
-counted : (n : ℕ) (text : List ℕ) → length (digits text) ≡ n → AreDigits n n (digits text)
+counted : (n : ℕ) (text : List ℕ) → length (leading_digits text) ≡ n → IsDigitRun n n (leading_digits text)
 counted n text e = record { digits = leading_passes is_ascii_digit text; at_least = omega arith; at_most = omega arith }
 
 with_year_cut : (m d : ℕ) (text : List ℕ) (p : CalendarDate × List ℕ) → with_year m d text ≡ Some p → YearCut m d text p
 unfolding with_year
 with_year_cut m d text p e =
-    elim (cases_Bool (length (digits text) == 4)) [
+    elim (cases_Bool (length (leading_digits text) == 4)) [
       | inl h ↦
-          let same : ◌≡◌ {A = CalendarDate × List ℕ} (OfMonth (number_of (digits text)) m d, past_digits text) p = some_same _ p (rw h at e) in
+          let same : ◌≡◌ {A = CalendarDate × List ℕ} (OfMonth (number_of (leading_digits text)) m d, past_digits text) p = same_Some _ p (rw h at e) in
           record {
-            year = digits text;
-            year_digits = counted 4 text (is_four (length (digits text)) h);
-            whole = sym (joined is_ascii_digit text) ∙ ap (λ (q : CalendarDate × List ℕ). digits text ++ q.1) same;
+            year = leading_digits text;
+            year_digits = counted 4 text (is_four (length (leading_digits text)) h);
+            whole = sym (joined is_ascii_digit text) ∙ ap (λ (q : CalendarDate × List ℕ). leading_digits text ++ q.1) same;
             date_is = ap (λ (q : CalendarDate × List ℕ). q.0) (sym same);
           }
       | inr h ↦ absurd (let no = rw h at e in cc)
@@ -97,10 +99,10 @@ month_cut text p e =
     let next : ℕ → Option (ℕ × List ℕ) = λ m. after 45 (behind is_no_dash text) >>= λ rest. Some (m, rest) in
     let a = bound (month_named (leading is_no_dash text)) next p e in
     let b = bound (after 45 (behind is_no_dash text)) (last a.0) p a.2 in
-    month_cut_of text a.0 b.0 p a.1 b.1 (some_same _ p b.2)
+    month_cut_of text a.0 b.0 p a.1 b.1 (same_Some _ p b.2)
 
 -- a year and its dash, and a month and a day behind it
-named_cut : (year text : List ℕ) (q : ℕ × List ℕ) (p : CalendarDate × List ℕ) → AreDigits 4 4 year → MonthCut text q → DayCut (number_of year) q.0 q.1 p → Cut (year ++ (45 ∷ text)) p.1 p.0
+named_cut : (year text : List ℕ) (q : ℕ × List ℕ) (p : CalendarDate × List ℕ) → IsDigitRun 4 4 year → MonthCut text q → DayCut (number_of year) q.0 q.1 p → Cut (year ++ (45 ∷ text)) p.1 p.0
 unfolding number_in
 named_cut year text q p h month day = record {
   day = named year month.name day.day;
@@ -109,7 +111,7 @@ named_cut year text q p h month day = record {
   same = ap number_in day.date_is ∙ rw (only month.name q.0 month.named_by) refl;
 }
 
-numeric_cut : (year month text mid : List ℕ) (p : CalendarDate × List ℕ) → AreDigits 4 4 year → AreDigits 1 2 month → text ≡ month ++ (45 ∷ mid) → DayCut (number_of year) (number_of month) mid p → Cut (year ++ (45 ∷ text)) p.1 p.0
+numeric_cut : (year month text mid : List ℕ) (p : CalendarDate × List ℕ) → IsDigitRun 4 4 year → IsDigitRun 1 2 month → text ≡ month ++ (45 ∷ mid) → DayCut (number_of year) (number_of month) mid p → Cut (year ++ (45 ∷ text)) p.1 p.0
 unfolding number_in
 numeric_cut year month text mid p h k e day = record {
   day = numeric year month day.day;
@@ -118,16 +120,16 @@ numeric_cut year month text mid p h k e day = record {
   same = ap number_in day.date_is;
 }
 
-of_year_cut : (year text : List ℕ) (p : CalendarDate × List ℕ) → AreDigits 4 4 year → length (digits text) ≡ 3 → ◌≡◌ {A = CalendarDate × List ℕ} (OfYear (number_of year) (number_of (digits text)), past_digits text) p → Cut (year ++ (45 ∷ text)) p.1 p.0
+of_year_cut : (year text : List ℕ) (p : CalendarDate × List ℕ) → IsDigitRun 4 4 year → length (leading_digits text) ≡ 3 → ◌≡◌ {A = CalendarDate × List ℕ} (OfYear (number_of year) (number_of (leading_digits text)), past_digits text) p → Cut (year ++ (45 ∷ text)) p.1 p.0
 unfolding number_in
 of_year_cut year text p h three same = record {
-  day = of_year year (digits text);
+  day = of_year year (leading_digits text);
   parts = (h, counted 3 text three);
-  whole = glued_two year (digits text) p.1 text (sym (joined is_ascii_digit text) ∙ ap (λ (q : CalendarDate × List ℕ). digits text ++ q.1) same);
+  whole = glued_two year (leading_digits text) p.1 text (sym (joined is_ascii_digit text) ∙ ap (λ (q : CalendarDate × List ℕ). leading_digits text ++ q.1) same);
   same = ap (λ (q : CalendarDate × List ℕ). number_in q.0) (sym same);
 }
 
-day_first_cut : (day text : List ℕ) (q : ℕ × List ℕ) (p : CalendarDate × List ℕ) → AreDigits 1 2 day → MonthCut text q → YearCut q.0 (number_of day) q.1 p → Cut (day ++ (45 ∷ text)) p.1 p.0
+day_first_cut : (day text : List ℕ) (q : ℕ × List ℕ) (p : CalendarDate × List ℕ) → IsDigitRun 1 2 day → MonthCut text q → YearCut q.0 (number_of day) q.1 p → Cut (day ++ (45 ∷ text)) p.1 p.0
 unfolding number_in
 day_first_cut day text q p h month year = record {
   day = day_first day month.name year.year;
@@ -137,35 +139,35 @@ day_first_cut day text q p h month year = record {
 }
 
 -- the text behind digits and a byte
-behind_byte : (text t : List ℕ) → after 45 (past_digits text) ≡ Some t → text ≡ digits text ++ (45 ∷ t)
+behind_byte : (text t : List ℕ) → after 45 (past_digits text) ≡ Some t → text ≡ leading_digits text ++ (45 ∷ t)
 behind_byte text t e =
-    sym (joined is_ascii_digit text) ∙ ap (λ (r : List ℕ). digits text ++ r) (after_is 45 (past_digits text) t e)
+    sym (joined is_ascii_digit text) ∙ ap (λ (r : List ℕ). leading_digits text ++ r) (after_is 45 (past_digits text) t e)
 
-year_first_cut : (year text : List ℕ) (p : CalendarDate × List ℕ) → AreDigits 4 4 year → year_first (number_of year) text ≡ Some p → Cut (year ++ (45 ∷ text)) p.1 p.0
+year_first_cut : (year text : List ℕ) (p : CalendarDate × List ℕ) → IsDigitRun 4 4 year → year_first (number_of year) text ≡ Some p → Cut (year ++ (45 ∷ text)) p.1 p.0
 unfolding year_first
 year_first_cut year text p h e =
-    elim (cases_Bool (length (digits text) == 0)) [
+    elim (cases_Bool (length (leading_digits text) == 0)) [
       | inl none ↦
           let next : ℕ × List ℕ → Option (CalendarDate × List ℕ) = λ q. with_day (number_of year) q.0 q.1 in
           let a = bound (month_of_name text) next p (rw none at e) in
           named_cut year text a.0 p h (month_cut text a.0 a.1) (with_day_cut (number_of year) a.0.0 a.0.1 p a.2)
       | inr some ↦
           let e1 = rw some at e in
-          elim (cases_Bool (length (digits text) == 3)) [
-            | inl three ↦ of_year_cut year text p h (is_three (length (digits text)) three) (some_same _ p (rw three at e1))
+          elim (cases_Bool (length (leading_digits text) == 3)) [
+            | inl three ↦ of_year_cut year text p h (is_three (length (leading_digits text)) three) (same_Some _ p (rw three at e1))
             | inr other ↦
                 let e2 = rw other at e1 in
-                elim (cases_Bool (is_digits 1 2 (digits text))) [
+                elim (cases_Bool (is_digit_run 1 2 (leading_digits text))) [
                   | inl short ↦
-                      let next : List ℕ → Option (CalendarDate × List ℕ) = λ t. with_day (number_of year) (number_of (digits text)) t in
+                      let next : List ℕ → Option (CalendarDate × List ℕ) = λ t. with_day (number_of year) (number_of (leading_digits text)) t in
                       let a = bound (after 45 (past_digits text)) next p (rw short at e2) in
-                      numeric_cut year (digits text) text a.0 p h (digits_tested 1 2 (digits text) short) (behind_byte text a.0 a.1) (with_day_cut (number_of year) (number_of (digits text)) a.0 p a.2)
+                      numeric_cut year (leading_digits text) text a.0 p h (digits_tested 1 2 (leading_digits text) short) (behind_byte text a.0 a.1) (with_day_cut (number_of year) (number_of (leading_digits text)) a.0 p a.2)
                   | inr long ↦ absurd (let no = rw long at e2 in cc)
                 ]
           ]
     ]
 
-month_next_cut : (day text : List ℕ) (p : CalendarDate × List ℕ) → AreDigits 1 2 day → month_next (number_of day) text ≡ Some p → Cut (day ++ (45 ∷ text)) p.1 p.0
+month_next_cut : (day text : List ℕ) (p : CalendarDate × List ℕ) → IsDigitRun 1 2 day → month_next (number_of day) text ≡ Some p → Cut (day ++ (45 ∷ text)) p.1 p.0
 unfolding month_next
 month_next_cut day text p h e =
     let next : ℕ × List ℕ → Option (CalendarDate × List ℕ) = λ q. with_year q.0 (number_of day) q.1 in
@@ -179,18 +181,18 @@ of_equal a b rest date e c = record { day = c.day; parts = c.parts; whole = e �
 pub day_cut : (text : List ℕ) (p : CalendarDate × List ℕ) → day_of_text text ≡ Some p → Cut text p.1 p.0
 unfolding day_of_text
 day_cut text p e =
-    elim (cases_Bool (length (digits text) == 4)) [
+    elim (cases_Bool (length (leading_digits text) == 4)) [
       | inl four ↦
-          let next : List ℕ → Option (CalendarDate × List ℕ) = λ t. year_first (number_of (digits text)) t in
+          let next : List ℕ → Option (CalendarDate × List ℕ) = λ t. year_first (number_of (leading_digits text)) t in
           let a = bound (after 45 (past_digits text)) next p (rw four at e) in
-          of_equal text (digits text ++ (45 ∷ a.0)) p.1 p.0 (behind_byte text a.0 a.1) (year_first_cut (digits text) a.0 p (counted 4 text (is_four (length (digits text)) four)) a.2)
+          of_equal text (leading_digits text ++ (45 ∷ a.0)) p.1 p.0 (behind_byte text a.0 a.1) (year_first_cut (leading_digits text) a.0 p (counted 4 text (is_four (length (leading_digits text)) four)) a.2)
       | inr other ↦
           let e1 = rw other at e in
-          elim (cases_Bool (is_digits 1 2 (digits text))) [
+          elim (cases_Bool (is_digit_run 1 2 (leading_digits text))) [
             | inl short ↦
-                let next : List ℕ → Option (CalendarDate × List ℕ) = λ t. month_next (number_of (digits text)) t in
+                let next : List ℕ → Option (CalendarDate × List ℕ) = λ t. month_next (number_of (leading_digits text)) t in
                 let a = bound (after 45 (past_digits text)) next p (rw short at e1) in
-                of_equal text (digits text ++ (45 ∷ a.0)) p.1 p.0 (behind_byte text a.0 a.1) (month_next_cut (digits text) a.0 p (digits_tested 1 2 (digits text) short) a.2)
+                of_equal text (leading_digits text ++ (45 ∷ a.0)) p.1 p.0 (behind_byte text a.0 a.1) (month_next_cut (leading_digits text) a.0 p (digits_tested 1 2 (leading_digits text) short) a.2)
             | inr long ↦ absurd (let no = rw long at e1 in cc)
           ]
     ]

@@ -1,19 +1,18 @@
 -- A text that begins with a form of a day is read to that day.
-use Rattle.std.proofs.Common.{◌≡◌, ℕ, refl, sym, ap, ◌∙◌, arith, List, ◌∷◌, ◌++◌, length, ℤ, Option, Some, None, append_assoc}
+use Rattle.std.proofs.Common.{◌≡◌, ℕ, refl, sym, ap, ◌∙◌, arith, List, ◌∷◌, ◌++◌, length, ℤ, Option, Some, None, append_assoc, ne_eqb, eq-eqb}
 use Rattle.std.specs.Char.{is_ascii_digit}
 use Rattle.st_text.specs.Bytes.{number_of}
+use Rattle.st_text.specs.Scan.{IsDigitRun}
 use Rattle.st_dates.specs.CalendarMachine.{calendar_day, day_in_year}
-use Rattle.st_dates.specs.DayText.{DayText, numeric, named, day_first, of_year, day_spelling, AreDigits, AreDayParts, IsDayOf}
-use Rattle.st_dates.specs.DayTextMachine.{month_of_name, with_day, with_year, year_first, month_next, day_of_text, number_in}
+use Rattle.st_dates.specs.DayText.{DayText, numeric, named, day_first, of_year, day_spelling, AreDayParts, IsDayOf}
+use Rattle.st_dates.specs.DayTextMachine.{is_no_dash, month_of_name, with_day, with_year, year_first, month_next, day_of_text, number_in}
 use Rattle.st_dates.specs.Names.{NamesMonth}
 use Rattle.st_dates.specs.NamesMachine.{month_named}
-use Rattle.st_dates.specs.ScanMachine.{is_no_dash}
 use Rattle.st_dates.specs.declared.day_text.CalendarDate.{CalendarDate}
 use Rattle.st_dates.specs.declared.day_text.CalendarDate.TheVariants.{OfMonth, OfYear}
 use Rattle.st_dates.proofs.CalendarLaws.{there, there_only, place_there, place_there_only}
 use Rattle.st_dates.proofs.NameLaws.{only, names, no_dash, no_digit}
-use Rattle.st_dates.proofs.Runs.{Stops, leading-at, behind-at, leading-fail}
-use Rattle.st_dates.proofs.Scans.{dash, is_not, is_same, digits_at, past_at, digits_test}
+use Rattle.st_text.proofs.Runs.{Stops, leading-at, behind-at, leading-fail, digits_at, past_at, digits_test, after_byte}
 
 -- the day number of a date whose month has a name, where the calendar has the day
 abbrev pub named_day : ℕ → Option ℕ → ℕ → Option ℤ
@@ -50,49 +49,49 @@ day_is_found (day_first day name year) n h =
     (f.0, f.1, there_only (number_of year) f.0 (number_of day) n f.2)
 day_is_found (of_year year place) n h = place_there_only (number_of year) (number_of place) n h
 
-with_day_read : (y m : ℕ) (day rest : List ℕ) → AreDigits 1 2 day → Stops is_ascii_digit rest → with_day y m (day ++ rest) ≡ Some (OfMonth y m (number_of day), rest)
+with_day_read : (y m : ℕ) (day rest : List ℕ) → IsDigitRun 1 2 day → Stops is_ascii_digit rest → with_day y m (day ++ rest) ≡ Some (OfMonth y m (number_of day), rest)
 unfolding with_day
 with_day_read y m day rest h s =
     rw (digits_at 1 2 day rest h s, past_at 1 2 day rest h s, digits_test 1 2 day h) refl
 
-with_year_read : (m d : ℕ) (year rest : List ℕ) → AreDigits 4 4 year → Stops is_ascii_digit rest → with_year m d (year ++ rest) ≡ Some (OfMonth (number_of year) m d, rest)
+with_year_read : (m d : ℕ) (year rest : List ℕ) → IsDigitRun 4 4 year → Stops is_ascii_digit rest → with_year m d (year ++ rest) ≡ Some (OfMonth (number_of year) m d, rest)
 unfolding with_year
 with_year_read m d year rest h s =
-    rw (digits_at 4 4 year rest h s, past_at 4 4 year rest h s, is_same (length year) 4 (omega arith)) refl
+    rw (digits_at 4 4 year rest h s, past_at 4 4 year rest h s, eq-eqb (length year) 4 (omega arith)) refl
 
 month_read : (name rest : List ℕ) (m : ℕ) → NamesMonth name m → month_of_name (name ++ (45 ∷ rest)) ≡ Some (m, rest)
 unfolding month_of_name
 month_read name rest m n =
-    rw (leading-at is_no_dash name (45 ∷ rest) (no_dash name m n) refl, behind-at is_no_dash name (45 ∷ rest) (no_dash name m n) refl, only name m n, dash rest) refl
+    rw (leading-at is_no_dash name (45 ∷ rest) (no_dash name m n) refl, behind-at is_no_dash name (45 ∷ rest) (no_dash name m n) refl, only name m n, after_byte 45 rest) refl
 
-year_then : (year t : List ℕ) → AreDigits 4 4 year → day_of_text (year ++ (45 ∷ t)) ≡ year_first (number_of year) t
+year_then : (year t : List ℕ) → IsDigitRun 4 4 year → day_of_text (year ++ (45 ∷ t)) ≡ year_first (number_of year) t
 unfolding day_of_text
 year_then year t h =
-    rw (digits_at 4 4 year (45 ∷ t) h refl, past_at 4 4 year (45 ∷ t) h refl, is_same (length year) 4 (omega arith), dash t) refl
+    rw (digits_at 4 4 year (45 ∷ t) h refl, past_at 4 4 year (45 ∷ t) h refl, eq-eqb (length year) 4 (omega arith), after_byte 45 t) refl
 
-day_then : (day t : List ℕ) → AreDigits 1 2 day → day_of_text (day ++ (45 ∷ t)) ≡ month_next (number_of day) t
+day_then : (day t : List ℕ) → IsDigitRun 1 2 day → day_of_text (day ++ (45 ∷ t)) ≡ month_next (number_of day) t
 unfolding day_of_text
 day_then day t h =
-    rw (digits_at 1 2 day (45 ∷ t) h refl, past_at 1 2 day (45 ∷ t) h refl, is_not (length day) 4 (omega arith), digits_test 1 2 day h, dash t) refl
+    rw (digits_at 1 2 day (45 ∷ t) h refl, past_at 1 2 day (45 ∷ t) h refl, ne_eqb (length day) 4 (omega arith), digits_test 1 2 day h, after_byte 45 t) refl
 
-numeric_read : (y : ℕ) (month day rest : List ℕ) → AreDigits 1 2 month → AreDigits 1 2 day → Stops is_ascii_digit rest → year_first y (month ++ (45 ∷ (day ++ rest))) ≡ Some (OfMonth y (number_of month) (number_of day), rest)
+numeric_read : (y : ℕ) (month day rest : List ℕ) → IsDigitRun 1 2 month → IsDigitRun 1 2 day → Stops is_ascii_digit rest → year_first y (month ++ (45 ∷ (day ++ rest))) ≡ Some (OfMonth y (number_of month) (number_of day), rest)
 unfolding year_first
 numeric_read y month day rest h k s =
     let t = day ++ rest in
-    rw (digits_at 1 2 month (45 ∷ t) h refl, past_at 1 2 month (45 ∷ t) h refl, is_not (length month) 0 (omega arith), is_not (length month) 3 (omega arith), digits_test 1 2 month h, dash t) (with_day_read y (number_of month) day rest k s)
+    rw (digits_at 1 2 month (45 ∷ t) h refl, past_at 1 2 month (45 ∷ t) h refl, ne_eqb (length month) 0 (omega arith), ne_eqb (length month) 3 (omega arith), digits_test 1 2 month h, after_byte 45 t) (with_day_read y (number_of month) day rest k s)
 
-named_read : (y : ℕ) (name day rest : List ℕ) (m : ℕ) → NamesMonth name m → AreDigits 1 2 day → Stops is_ascii_digit rest → year_first y (name ++ (45 ∷ (day ++ rest))) ≡ Some (OfMonth y m (number_of day), rest)
+named_read : (y : ℕ) (name day rest : List ℕ) (m : ℕ) → NamesMonth name m → IsDigitRun 1 2 day → Stops is_ascii_digit rest → year_first y (name ++ (45 ∷ (day ++ rest))) ≡ Some (OfMonth y m (number_of day), rest)
 unfolding year_first
 named_read y name day rest m n k s =
     let t = day ++ rest in
     rw (leading-fail is_ascii_digit (name ++ (45 ∷ t)) (no_digit name (45 ∷ t) m n), month_read name t m n) (with_day_read y m day rest k s)
 
-of_year_read : (y : ℕ) (place rest : List ℕ) → AreDigits 3 3 place → Stops is_ascii_digit rest → year_first y (place ++ rest) ≡ Some (OfYear y (number_of place), rest)
+of_year_read : (y : ℕ) (place rest : List ℕ) → IsDigitRun 3 3 place → Stops is_ascii_digit rest → year_first y (place ++ rest) ≡ Some (OfYear y (number_of place), rest)
 unfolding year_first
 of_year_read y place rest h s =
-    rw (digits_at 3 3 place rest h s, past_at 3 3 place rest h s, is_not (length place) 0 (omega arith), is_same (length place) 3 (omega arith)) refl
+    rw (digits_at 3 3 place rest h s, past_at 3 3 place rest h s, ne_eqb (length place) 0 (omega arith), eq-eqb (length place) 3 (omega arith)) refl
 
-day_first_read : (d : ℕ) (name year rest : List ℕ) (m : ℕ) → NamesMonth name m → AreDigits 4 4 year → Stops is_ascii_digit rest → month_next d (name ++ (45 ∷ (year ++ rest))) ≡ Some (OfMonth (number_of year) m d, rest)
+day_first_read : (d : ℕ) (name year rest : List ℕ) (m : ℕ) → NamesMonth name m → IsDigitRun 4 4 year → Stops is_ascii_digit rest → month_next d (name ++ (45 ∷ (year ++ rest))) ≡ Some (OfMonth (number_of year) m d, rest)
 unfolding month_next
 day_first_read d name year rest m n k s =
     rw (month_read name (year ++ rest) m n) (with_year_read m d year rest k s)

@@ -4,9 +4,10 @@ pub mod DateLaws
 pub mod DayCuts
 pub mod DayForms
 pub mod DayLemmas
+pub mod DecimalLaws
 mod Examples
 pub mod NameLaws
-pub mod Runs
+pub mod RangeLaws
 pub mod Scans
 pub mod TimeCuts
 pub mod TimeForms

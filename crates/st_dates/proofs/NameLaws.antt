@@ -6,10 +6,11 @@ use Rattle.std.proofs.lemmas.Bool.Decides.{nat_tests}
 use Rattle.std.specs.Char.{is_ascii_digit, to_ascii_lowercase}
 use Rattle.std.specs.List.{list_all}
 use Rattle.std.specs.Str.{bytes_eq}
-use Rattle.st_dates.specs.ScanMachine.{is_no_dash}
+use Rattle.st_dates.specs.DayTextMachine.{is_no_dash}
 use Rattle.st_dates.specs.Names.{NamesMonth, name_of_month, month_names, lowered, AreSameLetters}
 use Rattle.st_dates.specs.NamesMachine.{is_name, month_from, month_named}
-use Rattle.st_dates.proofs.Runs.{Stops, head_passes, tail_passes}
+use Rattle.st_text.proofs.Logic.{and-left, and-right}
+use Rattle.st_text.proofs.Runs.{Stops}
 
 -- a fact about each month, from one proof for each
 by_month : (P : ℕ → Type 0) → P 1 → P 2 → P 3 → P 4 → P 5 → P 6 → P 7 → P 8 → P 9 → P 10 → P 11 → P 12 → (m : ℕ) → 1 ≤ m → m ≤ 12 → P m
@@ -163,15 +164,15 @@ plain_name text m h =
 
 all_name_bytes : (text : List ℕ) (m : ℕ) → NamesMonth text m → list_all is_name_byte text ≡ true
 all_name_bytes text m h =
-    sym (lower_bytes text) ∙ head_passes (list_all is_name_byte (lowered text)) (nat_le 1 (length (lowered text))) (plain_name text m h)
+    sym (lower_bytes text) ∙ and-left (list_all is_name_byte (lowered text)) (nat_le 1 (length (lowered text))) (plain_name text m h)
 
 dashless : (t : List ℕ) → list_all is_name_byte t ≡ true → list_all is_no_dash t ≡ true
 dashless [] h = refl
 dashless (b ∷ t) h =
-    let here : is_no_dash b ≡ true = head_passes (not (b == 45)) (not (is_ascii_digit b)) (head_passes (is_name_byte b) (list_all is_name_byte t) h) in
-    rw here (dashless t (tail_passes (is_name_byte b) (list_all is_name_byte t) h))
+    let here : is_no_dash b ≡ true = and-left (not (b == 45)) (not (is_ascii_digit b)) (and-left (is_name_byte b) (list_all is_name_byte t) h) in
+    rw here (dashless t (and-right (is_name_byte b) (list_all is_name_byte t) h))
 
--- a month's name has no dash in it
+-- a month's name has no after_byte 45 in it
 pub no_dash : (text : List ℕ) (m : ℕ) → NamesMonth text m → list_all is_no_dash text ≡ true
 no_dash text m h = dashless text (all_name_bytes text m h)
 
@@ -182,9 +183,9 @@ not_true false h = refl
 no_digit_first : (text rest : List ℕ) → list_all is_name_byte text ≡ true → nat_le 1 (length (lowered text)) ≡ true → Stops is_ascii_digit (text ++ rest)
 no_digit_first [] rest h k = absurd (cc)
 no_digit_first (b ∷ t) rest h k =
-    not_true (is_ascii_digit b) (tail_passes (not (b == 45)) (not (is_ascii_digit b)) (head_passes (is_name_byte b) (list_all is_name_byte t) h))
+    not_true (is_ascii_digit b) (and-right (not (b == 45)) (not (is_ascii_digit b)) (and-left (is_name_byte b) (list_all is_name_byte t) h))
 
 -- and begins with no digit
 pub no_digit : (text rest : List ℕ) (m : ℕ) → NamesMonth text m → Stops is_ascii_digit (text ++ rest)
 no_digit text rest m h =
-    no_digit_first text rest (all_name_bytes text m h) (tail_passes (list_all is_name_byte (lowered text)) (nat_le 1 (length (lowered text))) (plain_name text m h))
+    no_digit_first text rest (all_name_bytes text m h) (and-right (list_all is_name_byte (lowered text)) (nat_le 1 (length (lowered text))) (plain_name text m h))

@@ -6,12 +6,12 @@ use Rattle.std.proofs.lemmas.List.{append-nil}
 use Rattle.std.specs.Char.{is_ascii_digit}
 use Rattle.std.specs.Prelude.{codes}
 use Rattle.st_text.specs.Bytes.{number_of}
-use Rattle.st_dates.specs.DayText.{AreDigits}
-use Rattle.st_dates.specs.ScanMachine.{◌>>=◌, digits, past_digits, after, is_digits}
+use Rattle.st_text.specs.Scan.{IsDigitRun, ◌>>=◌, leading_digits, past_digits, after, is_digit_run}
 use Rattle.st_dates.specs.TimeText.{Clock, minutes, seconds, decimals, clock_spelling, IsField, AreClockParts, clock_units, IsMark, TimeText, midnight, after_mark, time_spelling, AreTimeParts, time_units}
 use Rattle.st_dates.specs.TimeTextMachine.{field, decimal_units, second_units, clock_of, past_slash, past_mark, time_of_text}
-use Rattle.st_dates.proofs.Runs.{joined, head_passes, tail_passes}
-use Rattle.st_dates.proofs.Scans.{some_same, bound, after_is, digits_tested}
+use Rattle.std.proofs.lemmas.Option.{same_Some}
+use Rattle.st_text.proofs.Logic.{and-left, and-right, bound}
+use Rattle.st_text.proofs.Runs.{joined, after_is, digits_tested}
 use Rattle.st_dates.proofs.TimeForms.{at_most_tested, sum_seconds, no_seconds, whole_seconds}
 
 record FieldCut (last : ℕ) (text : List ℕ) (p : ℕ × List ℕ) : Type 0 where
@@ -23,16 +23,16 @@ record FieldCut (last : ℕ) (text : List ℕ) (p : ℕ × List ℕ) : Type 0 wh
 field_cut : (last : ℕ) (text : List ℕ) (p : ℕ × List ℕ) → field last text ≡ Some p → FieldCut last text p
 unfolding field
 field_cut last text p e =
-    elim (cases_Bool (is_digits 1 2 (digits text) && nat_le (number_of (digits text)) last)) [
+    elim (cases_Bool (is_digit_run 1 2 (leading_digits text) && nat_le (number_of (leading_digits text)) last)) [
       | inl h ↦
-          let same : ◌≡◌ {A = ℕ × List ℕ} (number_of (digits text), past_digits text) p = some_same (number_of (digits text), past_digits text) p (rw h at e) in
+          let same : ◌≡◌ {A = ℕ × List ℕ} (number_of (leading_digits text), past_digits text) p = same_Some (number_of (leading_digits text), past_digits text) p (rw h at e) in
           record {
-            part = digits text;
+            part = leading_digits text;
             is_field = record {
-              digits = digits_tested 1 2 (digits text) (head_passes (is_digits 1 2 (digits text)) (nat_le (number_of (digits text)) last) h);
-              within = at_most_tested (number_of (digits text)) last (tail_passes (is_digits 1 2 (digits text)) (nat_le (number_of (digits text)) last) h);
+              digits = digits_tested 1 2 (leading_digits text) (and-left (is_digit_run 1 2 (leading_digits text)) (nat_le (number_of (leading_digits text)) last) h);
+              within = at_most_tested (number_of (leading_digits text)) last (and-right (is_digit_run 1 2 (leading_digits text)) (nat_le (number_of (leading_digits text)) last) h);
             };
-            whole = sym (joined is_ascii_digit text) ∙ ap (λ (q : ℕ × List ℕ). digits text ++ q.1) same;
+            whole = sym (joined is_ascii_digit text) ∙ ap (λ (q : ℕ × List ℕ). leading_digits text ++ q.1) same;
             number = ap (λ (q : ℕ × List ℕ). q.0) (sym same);
           }
       | inr h ↦ absurd (let no = rw h at e in cc)
@@ -40,7 +40,7 @@ field_cut last text p e =
 
 record DecimalCut (text : List ℕ) (u : ℕ) : Type 0 where
   part : List ℕ
-  part_digits : AreDigits 1 12 part
+  part_digits : IsDigitRun 1 12 part
   whole : text ≡ 46 ∷ part
   units : u ≡ number_of part * 10 ^ (18 - length part)
 
@@ -61,27 +61,27 @@ same_cons a b t e = ap (λ (x : ℕ). x ∷ t) e
 point_cut : (b : ℕ) (t : List ℕ) (u : ℕ) → decimal_units (b ∷ t) ≡ Some u → DecimalCut (b ∷ t) u
 unfolding decimal_units
 point_cut b t u e =
-    elim (cases_Bool ((b == 46) && is_digits 1 12 t)) [
+    elim (cases_Bool ((b == 46) && is_digit_run 1 12 t)) [
       | inl h ↦ record {
         part = t;
-        part_digits = digits_tested 1 12 t (tail_passes (b == 46) (is_digits 1 12 t) h);
-        whole = same_cons b 46 t (same_byte b 46 (head_passes (b == 46) (is_digits 1 12 t) h));
-        units = sym (some_same (number_of t * 10 ^ (18 - length t)) u (rw h at e));
+        part_digits = digits_tested 1 12 t (and-right (b == 46) (is_digit_run 1 12 t) h);
+        whole = same_cons b 46 t (same_byte b 46 (and-left (b == 46) (is_digit_run 1 12 t) h));
+        units = sym (same_Some (number_of t * 10 ^ (18 - length t)) u (rw h at e));
       }
       | inr h ↦ absurd (let no = rw h at e in cc)
     ]
 
 decimal_cut : (text : List ℕ) (u : ℕ) → decimal_units text ≡ Some u → ((text ≡ []) × (u ≡ 0)) ⊎ DecimalCut text u
-decimal_cut [] u e = inl (refl, some_same u 0 (sym e ∙ decimals_none))
+decimal_cut [] u e = inl (refl, same_Some u 0 (sym e ∙ decimals_none))
 decimal_cut (b ∷ t) u e = inr (point_cut b t u e)
 
 second_sum : (s part u : ℕ) (text : List ℕ) → ◌≡◌ {A = Option ℕ} (Some (s * 10 ^ 18 + part)) (Some u) → s ≡ number_of text → u ≡ number_of text * 10 ^ 18 + part
 second_sum s part u text e f =
-    sym (some_same (s * 10 ^ 18 + part) u e) ∙ ap (λ (n : ℕ). n * 10 ^ 18 + part) f
+    sym (same_Some (s * 10 ^ 18 + part) u e) ∙ ap (λ (n : ℕ). n * 10 ^ 18 + part) f
 
 minute_sum : (h m s u : ℕ) (hour minute : List ℕ) → ◌≡◌ {A = Option ℕ} (Some ((3600 * h + 60 * m) * 10 ^ 18 + s)) (Some u) → h ≡ number_of hour → m ≡ number_of minute → u ≡ (3600 * number_of hour + 60 * number_of minute) * 10 ^ 18 + s
 minute_sum h m s u hour minute e f g =
-    sym (some_same ((3600 * h + 60 * m) * 10 ^ 18 + s) u e)
+    sym (same_Some ((3600 * h + 60 * m) * 10 ^ 18 + s) u e)
     ∙ ap (λ (n : ℕ). (3600 * n + 60 * m) * 10 ^ 18 + s) f
     ∙ ap (λ (n : ℕ). (3600 * number_of hour + 60 * n) * 10 ^ 18 + s) g
 
@@ -120,7 +120,7 @@ colon_cut b t u e =
     }
 
 second_cut : (text : List ℕ) (u : ℕ) → second_units text ≡ Some u → ((text ≡ []) × (u ≡ 0)) ⊎ SecondCut text u
-second_cut [] u e = inl (refl, some_same u 0 (sym e ∙ seconds_none))
+second_cut [] u e = inl (refl, same_Some u 0 (sym e ∙ seconds_none))
 second_cut (b ∷ t) u e = inr (colon_cut b t u e)
 
 -- hours and minutes with what follows them
@@ -231,13 +231,13 @@ unfolding past_mark
 byte_cut b t rest e =
     elim (cases_Bool (b == 47)) [
       | inl h ↦
-          let c = slash_cut t rest (some_same (past_slash t) rest (rw h at e)) in
+          let c = slash_cut t rest (same_Some (past_slash t) rest (rw h at e)) in
           record { mark = c.mark; is_mark = c.is_mark; whole = same_cons b 47 t (same_byte b 47 h) ∙ c.whole }
       | inr other ↦
           let e1 = rw other at e in
           elim (cases_Bool ((b == 84) || (b == 116) || (b == 45))) [
             | inl h ↦
-                let same : t ≡ rest = some_same t rest (rw h at e1) in
+                let same : t ≡ rest = same_Some t rest (rw h at e1) in
                 elim (or_cases ((b == 84) || (b == 116)) (b == 45) h) [
                   | inl k ↦ elim (or_cases (b == 84) (b == 116) k) [
                     | inl x ↦ behind_mark b t rest (codes "T") 84 refl (inr (inr (inl refl))) x same
@@ -274,5 +274,5 @@ mark_then b t u e =
     }
 
 pub time_cut : (text : List ℕ) (u : ℕ) → time_of_text text ≡ Some u → TimeCut text u
-time_cut [] u e = record { time = midnight; parts = tt; whole = refl; units = some_same u 0 (sym e ∙ time_none) }
+time_cut [] u e = record { time = midnight; parts = tt; whole = refl; units = same_Some u 0 (sym e ∙ time_none) }
 time_cut (b ∷ t) u e = mark_then b t u e

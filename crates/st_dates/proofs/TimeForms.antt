@@ -4,11 +4,11 @@ use Rattle.std.proofs.lemmas.Bool.Decides.{nat_tests}
 use Rattle.std.proofs.lemmas.List.{append-nil}
 use Rattle.std.specs.Char.{is_ascii_digit}
 use Rattle.st_text.specs.Bytes.{are_digits, number_of}
-use Rattle.st_dates.specs.DayText.{AreDigits}
+use Rattle.st_text.specs.Scan.{IsDigitRun}
 use Rattle.st_dates.specs.TimeText.{Clock, minutes, seconds, decimals, clock_spelling, IsField, AreClockParts, units_of, clock_units, IsMark, TimeText, midnight, after_mark, time_spelling, AreTimeParts, time_units}
 use Rattle.st_dates.specs.TimeTextMachine.{field, decimal_units, second_units, clock_of, past_slash, past_mark, time_of_text}
-use Rattle.st_dates.proofs.Runs.{Stops, head_passes}
-use Rattle.st_dates.proofs.Scans.{colon, digits_at, past_at, digits_test}
+use Rattle.st_text.proofs.Logic.{and-left}
+use Rattle.st_text.proofs.Runs.{Stops, digits_at, past_at, digits_test, after_byte}
 
 at_most_test : (n last : ℕ) → n ≤ last → nat_le n last ≡ true
 at_most_test n last h = grind (arith, nat_tests)
@@ -28,7 +28,7 @@ decimals_none : decimal_units [] ≡ Some 0
 unfolding decimal_units
 decimals_none = refl
 
-decimals_read : (f : List ℕ) → AreDigits 1 12 f → decimal_units (46 ∷ f) ≡ Some (number_of f * 10 ^ (18 - length f))
+decimals_read : (f : List ℕ) → IsDigitRun 1 12 f → decimal_units (46 ∷ f) ≡ Some (number_of f * 10 ^ (18 - length f))
 unfolding decimal_units
 decimals_read f h = rw (digits_test 1 12 f h) refl
 
@@ -38,17 +38,17 @@ seconds_none = refl
 
 seconds_end : (s : List ℕ) → IsField 59 s → second_units (58 ∷ s) ≡ Some (number_of s * 10 ^ 18 + 0)
 unfolding second_units
-seconds_end s h = rw (colon s, field_end 59 s h, decimals_none) refl
+seconds_end s h = rw (after_byte 58 s, field_end 59 s h, decimals_none) refl
 
-seconds_read : (s f : List ℕ) → IsField 59 s → AreDigits 1 12 f → second_units (58 ∷ (s ++ (46 ∷ f))) ≡ Some (number_of s * 10 ^ 18 + number_of f * 10 ^ (18 - length f))
+seconds_read : (s f : List ℕ) → IsField 59 s → IsDigitRun 1 12 f → second_units (58 ∷ (s ++ (46 ∷ f))) ≡ Some (number_of s * 10 ^ 18 + number_of f * 10 ^ (18 - length f))
 unfolding second_units
 seconds_read s f h k =
-    rw (colon (s ++ (46 ∷ f)), field_read 59 s (46 ∷ f) h refl, decimals_read f k) refl
+    rw (after_byte 58 (s ++ (46 ∷ f)), field_read 59 s (46 ∷ f) h refl, decimals_read f k) refl
 
 clock_then : (h m tail : List ℕ) (u : ℕ) → IsField 23 h → IsField 59 m → Stops is_ascii_digit tail → second_units tail ≡ Some u → clock_of (h ++ (58 ∷ (m ++ tail))) ≡ Some ((3600 * number_of h + 60 * number_of m) * 10 ^ 18 + u)
 unfolding clock_of
 clock_then h m tail u hh hm s e =
-    rw (field_read 23 h (58 ∷ (m ++ tail)) hh refl, colon (m ++ tail), field_read 59 m tail hm s, e) refl
+    rw (field_read 23 h (58 ∷ (m ++ tail)) hh refl, after_byte 58 (m ++ tail), field_read 59 m tail hm s, e) refl
 
 same_units : (a b : ℕ) → a ≡ b → ◌≡◌ {A = Option ℕ} (Some a) (Some b)
 same_units a b e = ap Some e
@@ -78,10 +78,10 @@ clock_read (decimals h m s f) (hh, hm, hs, hf) =
 no_slash : (b : ℕ) → is_ascii_digit b ≡ true → (b == 47) ≡ false
 no_slash b h = grind (arith, nat_tests)
 
-digit_first : (text rest : List ℕ) → AreDigits 1 2 text → past_slash (text ++ rest) ≡ text ++ rest
+digit_first : (text rest : List ℕ) → IsDigitRun 1 2 text → past_slash (text ++ rest) ≡ text ++ rest
 unfolding past_slash
 digit_first [] rest h = absurd (let n : 1 ≤ 0 = h.at_least in omega arith)
-digit_first (b ∷ t) rest h = rw (no_slash b (head_passes (is_ascii_digit b) (are_digits t) h.digits)) refl
+digit_first (b ∷ t) rest h = rw (no_slash b (and-left (is_ascii_digit b) (are_digits t) h.digits)) refl
 
 clock_first : (c : Clock) → AreClockParts c → past_slash (clock_spelling c) ≡ clock_spelling c
 clock_first (minutes h m) k = digit_first h (58 ∷ m) k.0.digits

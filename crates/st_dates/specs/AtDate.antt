@@ -1,10 +1,10 @@
 -- The dates of a text kernel: what stands after the `@`. Source: Kernel Required Reading, which
 -- takes dates by the forms of Time Required Reading; those that are taken are in DayText and TimeText.
 -- Its value is the formal count of seconds past 2000-01-01 12:00:00, every day having 86,400 s.
-use Rattle.std.specs.Prelude.{◌≡◌, ℕ, List, ◌++◌, ℤ, pos, ◌≤ℤ◌, Result, Ok, Err}
+use Rattle.std.specs.Prelude.{◌≡◌, ℕ, List, ◌++◌, ℤ, pos, Result, Ok, Err}
 use Rattle.st_dates.specs.DayText.{DayText, day_spelling, AreDayParts, IsDayOf}
 use Rattle.st_dates.specs.Label.{formal}
-use Rattle.st_dates.specs.Range.{range_start, range_end}
+use Rattle.st_dates.specs.Range.{IsInRange}
 use Rattle.st_dates.specs.TimeText.{TimeText, time_spelling, AreTimeParts, time_units}
 use Rattle.st_dates.specs.declared.fault.DateFault.{DateFault}
 use Rattle.st_dates.specs.declared.fault.DateFault.TheVariants.{Form, NoSuchDay, OutOfRange}
@@ -23,10 +23,6 @@ pub record Spells (w : Written) (text : List ℕ) : Type 0 where
 -- the formal count of a moment of a day, in units of 10^-18 s
 abbrev pub moment : ℤ → ℕ → ℤ
 moment n units = formal (record { day = n; of_day = pos units })
-
--- from 1900-01-01 00:00 to 2100-01-01 00:00, both included
-abbrev pub IsInRange : ℤ → Type 0
-IsInRange z = (range_start ≤ℤ z) × (z ≤ℤ range_end)
 
 -- the calendar has the written day, and z is the moment of that day
 abbrev pub IsMomentOf : Written → ℤ → Type 0

@@ -1,8 +1,8 @@
 -- How a date after an `@` is read: its day, the time behind it, and then the calendar and the range.
-use Rattle.std.specs.Prelude.{ℕ, ◌&&◌, List, ℤ, int_le, Option, Some, None, Result, Ok, Err, if◌then◌else◌}
+use Rattle.std.specs.Prelude.{ℕ, Bool, ◌&&◌, List, ℤ, int_le, Option, Some, None, Result, Ok, Err, if◌then◌else◌}
 use Rattle.st_dates.specs.AtDate.{moment}
 use Rattle.st_dates.specs.DayTextMachine.{day_of_text, number_in}
-use Rattle.st_dates.specs.ScanMachine.{◌>>=◌}
+use Rattle.st_text.specs.Scan.{◌>>=◌}
 use Rattle.st_dates.specs.TimeTextMachine.{time_of_text}
 use Rattle.st_dates.specs.declared.day_text.CalendarDate.{CalendarDate}
 use Rattle.st_dates.specs.declared.fault.DateFault.{DateFault}
@@ -13,8 +13,12 @@ use Rattle.st_dates.specs.declared.label.TheConstants.{FIRST, LAST}
 unfoldable pub parts_of : List ℕ → Option (CalendarDate × ℕ)
 parts_of text = day_of_text text >>= λ p. time_of_text p.1 >>= λ units. Some (p.0, units)
 
+-- whether a formal count is in the range of times
+abbrev pub is_in_range : ℤ → Bool
+is_in_range z = int_le FIRST z && int_le z LAST
+
 abbrev pub ranged : ℤ → Result ℤ DateFault
-ranged z = if int_le FIRST z && int_le z LAST then Ok z else Err OutOfRange
+ranged z = if is_in_range z then Ok z else Err OutOfRange
 
 abbrev pub counted : Option ℤ → ℕ → Result ℤ DateFault
 counted None units = Err NoSuchDay

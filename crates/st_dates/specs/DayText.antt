@@ -1,15 +1,10 @@
 -- The day of a date as it is written. Source: Time Required Reading, of whose forms four are taken: a
 -- year of four digits with a month's number, its name, or the place of the day in its year.
-use Rattle.std.specs.Prelude.{◌≡◌, ℕ, ◌≤◌, List, ◌∷◌, ◌++◌, length, IsTrue, ℤ}
-use Rattle.st_text.specs.Bytes.{are_digits, number_of}
+use Rattle.std.specs.Prelude.{◌≡◌, ℕ, List, ◌∷◌, ◌++◌, ℤ}
+use Rattle.st_text.specs.Bytes.{number_of}
+use Rattle.st_text.specs.Scan.{IsDigitRun}
 use Rattle.st_dates.specs.Calendar.{IsCalendarDay, IsDayOfYear, day_number, number_in_year}
 use Rattle.st_dates.specs.Names.{NamesMonth}
-
--- digits alone, from `low` to `high` of them
-pub record AreDigits (low high : ℕ) (text : List ℕ) : Type 0 where
-  pub digits : IsTrue (are_digits text)
-  pub at_least : low ≤ length text
-  pub at_most : length text ≤ high
 
 -- the parts of a day as they stand in the text, one case for each form
 pub data DayText : Type 0 where
@@ -35,10 +30,10 @@ IsMonthName name = (m : ℕ) × NamesMonth name m
 
 -- what each part must be
 abbrev pub AreDayParts : DayText → Type 0
-AreDayParts (numeric year month day) = AreDigits 4 4 year × AreDigits 1 2 month × AreDigits 1 2 day
-AreDayParts (named year name day) = AreDigits 4 4 year × IsMonthName name × AreDigits 1 2 day
-AreDayParts (day_first day name year) = AreDigits 1 2 day × IsMonthName name × AreDigits 4 4 year
-AreDayParts (of_year year place) = AreDigits 4 4 year × AreDigits 3 3 place
+AreDayParts (numeric year month day) = IsDigitRun 4 4 year × IsDigitRun 1 2 month × IsDigitRun 1 2 day
+AreDayParts (named year name day) = IsDigitRun 4 4 year × IsMonthName name × IsDigitRun 1 2 day
+AreDayParts (day_first day name year) = IsDigitRun 1 2 day × IsMonthName name × IsDigitRun 4 4 year
+AreDayParts (of_year year place) = IsDigitRun 4 4 year × IsDigitRun 3 3 place
 
 -- the calendar has this date, and n is its day number
 abbrev pub IsDateOf : ℕ → ℕ → ℕ → ℤ → Type 0

@@ -5,10 +5,10 @@ pub mod CalendarMachine
 pub mod Civil
 pub mod DayText
 pub mod DayTextMachine
+pub mod Decimals
 pub mod Label
 pub mod Names
 pub mod NamesMachine
 pub mod Range
-pub mod ScanMachine
 pub mod TimeText
 pub mod TimeTextMachine

@@ -2,7 +2,8 @@
 -- minutes and seconds with colons between them; which marks may stand before them is a choice of this project.
 use Rattle.std.specs.Prelude.{◌≡◌, ℕ, ◌+◌, ◌-◌, ◌*◌, ◌^◌, ◌≤◌, ◌⊎◌, List, [], ◌∷◌, ◌++◌, length, codes}
 use Rattle.st_text.specs.Bytes.{number_of}
-use Rattle.st_dates.specs.DayText.{AreDigits}
+use Rattle.st_dates.specs.Decimals.{units_of_decimals}
+use Rattle.st_text.specs.Scan.{IsDigitRun}
 
 -- the parts of a time as they stand in the text, one case for each form
 pub data Clock : Type 0 where
@@ -21,14 +22,14 @@ clock_spelling (decimals h m s f) = h ++ (58 ∷ (m ++ (58 ∷ (s ++ (46 ∷ f))
 
 -- one or two digits, and a number that is at most the last of its kind
 pub record IsField (last : ℕ) (text : List ℕ) : Type 0 where
-  pub digits : AreDigits 1 2 text
+  pub digits : IsDigitRun 1 2 text
   pub within : number_of text ≤ last
 
 -- what each part must be
 abbrev pub AreClockParts : Clock → Type 0
 AreClockParts (minutes h m) = IsField 23 h × IsField 59 m
 AreClockParts (seconds h m s) = IsField 23 h × IsField 59 m × IsField 59 s
-AreClockParts (decimals h m s f) = IsField 23 h × IsField 59 m × IsField 59 s × AreDigits 1 12 f
+AreClockParts (decimals h m s f) = IsField 23 h × IsField 59 m × IsField 59 s × IsDigitRun 1 12 f
 
 -- hours, minutes and seconds as units of 10^-18 s
 abbrev pub units_of : ℕ → ℕ → ℕ → ℕ
@@ -39,7 +40,7 @@ abbrev pub clock_units : Clock → ℕ
 clock_units (minutes h m) = units_of (number_of h) (number_of m) 0
 clock_units (seconds h m s) = units_of (number_of h) (number_of m) (number_of s)
 clock_units (decimals h m s f) =
-    units_of (number_of h) (number_of m) (number_of s) + number_of f * 10 ^ (18 - length f)
+    units_of (number_of h) (number_of m) (number_of s) + units_of_decimals f
 
 -- what may stand between a day and a time: `/`, `//`, `T`, `t` or `-`
 abbrev pub IsMark : List ℕ → Type 0

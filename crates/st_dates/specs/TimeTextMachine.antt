@@ -1,20 +1,21 @@
 -- How the time behind a day is read: a mark, then fields from the left.
 use Rattle.std.specs.Prelude.{ℕ, ◌+◌, ◌-◌, ◌*◌, ◌^◌, ◌&&◌, ◌||◌, ◌==◌, nat_le, List, [], ◌∷◌, length, Option, Some, None, if◌then◌else◌}
 use Rattle.st_text.specs.Bytes.{number_of}
-use Rattle.st_dates.specs.ScanMachine.{◌>>=◌, digits, past_digits, after, is_digits}
+use Rattle.st_dates.specs.Decimals.{units_of_decimals}
+use Rattle.st_text.specs.Scan.{◌>>=◌, leading_digits, past_digits, after, is_digit_run}
 
 -- a field that is at most `last`, and the rest
 unfoldable pub field : ℕ → List ℕ → Option (ℕ × List ℕ)
 field last text =
-    if is_digits 1 2 (digits text) && nat_le (number_of (digits text)) last
-    then Some (number_of (digits text), past_digits text)
+    if is_digit_run 1 2 (leading_digits text) && nat_le (number_of (leading_digits text)) last
+    then Some (number_of (leading_digits text), past_digits text)
     else None
 
 -- decimals of a second as units, behind a point, or nothing
 unfoldable pub decimal_units : List ℕ → Option ℕ
 decimal_units [] = Some 0
 decimal_units (b ∷ t) =
-    if (b == 46) && is_digits 1 12 t then Some (number_of t * 10 ^ (18 - length t)) else None
+    if (b == 46) && is_digit_run 1 12 t then Some (units_of_decimals t) else None
 
 -- seconds as units, behind a colon, or nothing
 unfoldable pub second_units : List ℕ → Option ℕ

@@ -1,13 +1,15 @@
+//! The dates of text kernels, which stand behind an `@`.
+
 ghost use Rattle.std.specs.Prelude.{◌≡◌, ◌<◌, ◌*◌, ◌^◌, ℤ, Result};
 ghost use Rattle.st_dates.specs.AtDate.{ReadsAtDate, moment};
 ghost use Rattle.st_dates.specs.AtDateMachine as machine;
 ghost use Rattle.st_dates.specs.AtDateMachine.{at_date_of};
 ghost use Rattle.st_dates.specs.declared.fault.DateFault.{DateFault as Fault};
 
+use crate::DateFault;
 use crate::day_text::{number_of, read_day};
-use crate::label::DAY;
+use crate::label::{is_ranged, midnight_of};
 use crate::time_text::read_time;
-use crate::{DateFault, FIRST, LAST};
 
 /// The instant of a date of a text kernel, whose text stands after an `@`: its formal count, in units
 /// of 10^-18 s past 2000-01-01 12:00:00.
@@ -45,13 +47,13 @@ fn moment_of(day: i32, units: u128) -> i128
     requires { units < 86_400 * 10 ^ 18 }
     ensures { result ≡ moment day units }
 {
-    day as i128 * DAY - DAY / 2 + units as i128
+    midnight_of(day) + units as i128
 }
 
 fn ranged(instant: i128) -> Result<i128, DateFault>
     ensures { result ≡ machine.ranged instant }
 {
-    if FIRST <= instant && instant <= LAST {
+    if is_ranged(instant) {
         Ok(instant)
     } else {
         Err(DateFault::OutOfRange)

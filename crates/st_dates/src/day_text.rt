@@ -1,10 +1,13 @@
-ghost use Rattle.std.specs.Prelude.{◌≡◌, ◌≤◌, MatchOption, IfSome};
-ghost use Rattle.st_dates.specs.DayTextMachine as machine;
-ghost use Rattle.st_dates.specs.DayTextMachine.{month_of_name, HasFourDigits};
+//! The day of a date, as four forms write it.
 
-use crate::scan::{after, is_digits, split_digits, split_name};
+ghost use Rattle.std.specs.Prelude.{◌≡◌, ◌≤◌, length, MatchOption, IfSome};
+ghost use Rattle.std.specs.List.{prefix_len};
+ghost use Rattle.st_text.specs.Scan.{leading, behind};
+ghost use Rattle.st_dates.specs.DayTextMachine as machine;
+ghost use Rattle.st_dates.specs.DayTextMachine.{month_of_name, is_no_dash, HasFourDigits};
+
 use crate::{day_of, day_of_doy, month_of};
-use st_text::read_digits;
+use st_text::{after, is_digit_run, read_digits, split_digits};
 
 /// A date as a text names it, whether the calendar has it or not.
 #[derive(Clone, Copy, Debug)]
@@ -25,7 +28,7 @@ pub(crate) fn read_day(text: &[u8]) -> Option<(CalendarDate, &[u8])>
     let (first, rest) = split_digits(text);
     if first.len() == 4 {
         year_first(read_digits(first) as u32, after(rest, b'-')?)
-    } else if is_digits(first, 1, 2) {
+    } else if is_digit_run(first, 1, 2) {
         month_next(read_digits(first) as u32, after(rest, b'-')?)
     } else {
         None
@@ -47,7 +50,7 @@ fn year_first(year: u32, text: &[u8]) -> Option<(CalendarDate, &[u8])>
     } else if second.len() == 3 {
         let place = read_digits(second) as u32;
         Some((CalendarDate::OfYear { year, place }, rest))
-    } else if is_digits(second, 1, 2) {
+    } else if is_digit_run(second, 1, 2) {
         with_day(year, read_digits(second) as u32, after(rest, b'-')?)
     } else {
         None
@@ -77,6 +80,24 @@ fn read_month(text: &[u8]) -> Option<(u32, &[u8])>
     Some((u32::from(month), behind))
 }
 
+/// What stands before the first `-` of a text, and the rest of it, from the `-` on.
+#[tactic(auto, using(crate::proofs::Scans::cut))]
+fn split_name(text: &[u8]) -> (&[u8], &[u8])
+    ensures name { result.0.now ≡ leading is_no_dash text.now }
+    ensures rest { result.1.now ≡ behind is_no_dash text.now }
+{
+    let end = count_to_dash(text);
+    (&text[..end], &text[end..])
+}
+
+/// How many bytes stand before the first `-`, or the text's length where there is none.
+fn count_to_dash(text: &[u8]) -> usize
+    ensures value { result ≡ prefix_len is_no_dash text.now }
+    ensures within { result ≤ length text.now }
+{
+    text.iter().take_while(|byte| **byte != b'-').count()
+}
+
 /// The date of a year, a month and the day that a text begins with.
 #[tactic(auto, unfolding(crate::specs::DayTextMachine::with_day))]
 fn with_day(year: u32, month: u32, text: &[u8]) -> Option<(CalendarDate, &[u8])>
@@ -86,7 +107,7 @@ fn with_day(year: u32, month: u32, text: &[u8]) -> Option<(CalendarDate, &[u8])>
     ensures year { IfSome result (λ p. HasFourDigits p.0) }
 {
     let (digits, rest) = split_digits(text);
-    if !is_digits(digits, 1, 2) {
+    if !is_digit_run(digits, 1, 2) {
         return None;
     }
     let day = read_digits(digits) as u32;

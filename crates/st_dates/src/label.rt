@@ -1,5 +1,9 @@
-ghost use Rattle.std.specs.Prelude.{◌≡◌, neg_ℤ, pos, ◌≤ℤ◌};
-ghost use Rattle.st_dates.specs.Label.{formal, formal as count_of, IsFormal, IsPlainLabel};
+//! Labels and their formal count, and the range of times.
+
+ghost use Rattle.std.specs.Prelude.{◌≡◌, ◌↔◌, ◌^◌, IsTrue, neg_ℤ, pos, ◌-ℤ◌, ◌*ℤ◌, ◌≤ℤ◌};
+ghost use Rattle.st_dates.specs.AtDateMachine as machine;
+ghost use Rattle.st_dates.specs.Label.{formal, formal as count_of, units, IsFormal, IsPlainLabel};
+ghost use Rattle.st_dates.specs.Range.{LiesInRange};
 ghost use Rattle.st_dates.specs.declared.label.Label.{Label as TheLabel};
 
 /// The first instant of the range that is answered, 1900-01-01 00:00, in units past J2000.
@@ -29,7 +33,7 @@ pub fn formal_of(label: Label) -> i128
     requires { IsFormal (formal label) }
     ensures { result ≡ formal label }
 {
-    label.day as i128 * DAY - DAY / 2 + label.of_day
+    midnight_of(label.day) + label.of_day
 }
 
 /// The label of a formal count, in units past J2000, on days of 86,400 s.
@@ -46,6 +50,34 @@ pub fn label_of(formal: i128) -> Label
         day: since_midnight.div_euclid(DAY) as i32,
         of_day: since_midnight.rem_euclid(DAY),
     }
+}
+
+/// Whether a label lies in the range of times, from 1900-01-01 00:00 to 2100-01-01 00:00, both
+/// included.
+pub fn is_in_range(label: Label) -> bool
+    ensures lies { IsTrue result ↔ LiesInRange label }
+    ensures exact { result ≡ machine.is_in_range (count_of label) }
+{
+    match midnight_of(label.day).checked_add(label.of_day) {
+        Some(formal) => is_ranged(formal),
+        None => false,
+    }
+}
+
+/// The formal count of a day's midnight.
+pub(crate) fn midnight_of(day: i32) -> i128
+    ensures value { result ≡ units ((day *ℤ pos 86_400) -ℤ pos 43_200) }
+    ensures from { neg_ℤ (pos (2 ^ 126)) ≤ℤ result }
+    ensures to { result ≤ℤ pos (2 ^ 126) }
+{
+    i128::from(day) * DAY - DAY / 2
+}
+
+/// Whether a formal count is in the range of times.
+pub(crate) fn is_ranged(formal: i128) -> bool
+    ensures { result ≡ machine.is_in_range formal }
+{
+    FIRST <= formal && formal <= LAST
 }
 
 #[cfg(test)]
@@ -68,6 +100,17 @@ mod tests {
             assert!(rt; FIRST <= formal && formal <= LAST);
             assert_eq!(rt; formal_of(Label { day, of_day }), formal);
             assert_eq!(rt; label_of(formal), Label { day, of_day });
+        }
+        let rows = [
+            (-36_524, 0, true),
+            (-36_525, DAY - 1, false),
+            (36_525, 0, true),
+            (36_525, 1, false),
+            (36_526, -DAY, true),
+            (i32::MIN, i128::MAX, false),
+        ];
+        for (day, of_day, lies) in rows {
+            assert_eq!(rt; is_in_range(Label { day, of_day }), lies);
         }
         assert_eq!(rt;
             formal_of(Label {

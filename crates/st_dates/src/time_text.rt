@@ -1,10 +1,12 @@
+//! The time of day behind the day of a date.
+
 ghost use Rattle.std.specs.Prelude.{◌≡◌, ◌≤◌, ◌<◌, ◌*◌, ◌^◌, MatchOption, IfSome, option_copied};
 ghost use Rattle.st_dates.specs.TimeTextMachine as machine;
-ghost use Rattle.st_dates.specs.TimeTextMachine.{time_of_text, clock_of, second_units, decimal_units};
+ghost use Rattle.st_dates.specs.TimeTextMachine.{time_of_text, clock_of, second_units};
 
+use crate::decimals::read_decimals;
 use crate::label;
-use crate::scan::{after, is_digits, split_digits};
-use st_text::read_digits;
+use st_text::{after, is_digit_run, read_digits, split_digits};
 
 /// The units in a second.
 const SECOND: u128 = label::SECOND as u128;
@@ -55,22 +57,7 @@ fn read_seconds(text: &[u8]) -> Option<u128>
         return Some(0);
     }
     let (second, rest) = read_field(after(text, b':')?, 59)?;
-    Some(u128::from(second) * SECOND + read_decimals(rest)?)
-}
-
-/// The decimals of a second as units: `.f` or nothing.
-#[tactic(auto, unfolding(crate::specs::TimeTextMachine::decimal_units))]
-fn read_decimals(text: &[u8]) -> Option<u128>
-    ensures value { result ≡ decimal_units text.now }
-    ensures below { IfSome result (λ units. units < 10 ^ 18) }
-{
-    match text {
-        [] => Some(0),
-        [b'.', digits @ ..] if is_digits(digits, 1, 12) => {
-            Some(u128::from(read_digits(digits)) * 10u128.pow(18 - digits.len() as u32))
-        }
-        _ => None,
-    }
+    Some(u128::from(second) * SECOND + u128::from(read_decimals(rest)?))
 }
 
 /// One or two digits with which a text begins, of a number that is at most `last`, and the rest.
@@ -81,7 +68,7 @@ fn read_field(text: &[u8], last: u64) -> Option<(u64, &[u8])>
     ensures within { IfSome result (λ p. p.0 ≤ last) }
 {
     let (digits, rest) = split_digits(text);
-    if !is_digits(digits, 1, 2) {
+    if !is_digit_run(digits, 1, 2) {
         return None;
     }
     let number = read_digits(digits);

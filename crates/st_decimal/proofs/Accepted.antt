@@ -1,18 +1,18 @@
 -- Each number's bytes are accepted from the start on, part by part.
 use Rattle.std.proofs.Common.{◌≡◌, ℕ, ◌+◌, ◌<◌, true, List, [], ◌∷◌, ◌++◌, length, Option, Some, None, refl, ◌∙◌, ap, arith}
+use Rattle.st_text.proofs.Logic.{and-left, and-right}
 use Rattle.st_text.specs.Bytes.{are_digits}
 use Rattle.st_decimal.specs.declared.place.Kind.TheVariants.{Sign, Point, Mark}
 use Rattle.st_decimal.specs.declared.place.Place.{Place}
 use Rattle.st_decimal.specs.declared.place.Place.TheVariants.{Start, Signed, Whole, Dot, Decimals, Marked, MarkedSigned, Raised}
 use Rattle.st_decimal.specs.Number.{Exponent, Parts, AreParts, IsOptionalSign, IsOptionalExponent, pointed, marked, spelling, decimals_of}
 use Rattle.st_decimal.specs.NumberMachine.{on_digit, on_point, on_mark, is_end_of}
-use Rattle.st_decimal.proofs.ZeroDigits.{and_left, and_right}
 use Rattle.st_decimal.proofs.Accepts.{accepts, step_by, digit_step, digits_on, digits_end, kind_sign, kind_point, kind_mark}
 
 raised_accepted : (q : Place) (ds : List ℕ) → on_digit q ≡ Some Raised → are_digits ds ≡ true → 0 < length ds → accepts (Some q) ds ≡ true
 raised_accepted q [] to h some = absurd (omega arith)
 raised_accepted q (d ∷ ds) to h some =
-    digit_step q d ds (and_left _ _ h) ∙ ap (λ (o : Option Place). accepts o ds) to ∙ digits_end Raised ds refl (and_right _ _ h)
+    digit_step q d ds (and-left _ _ h) ∙ ap (λ (o : Option Place). accepts o ds) to ∙ digits_end Raised ds refl (and-right _ _ h)
 
 marked_accepted : (s ds : List ℕ) → IsOptionalSign s → are_digits ds ≡ true → 0 < length ds → accepts (Some Marked) (s ++ ds) ≡ true
 marked_accepted [] ds sign h some = raised_accepted Marked ds refl h some
@@ -37,17 +37,17 @@ whole_accepted : (q : Place) (w : List ℕ) (o : Option (List ℕ)) (e : Option 
     → are_digits w ≡ true → are_digits (decimals_of o) ≡ true → 0 < length w + length (decimals_of o) → IsOptionalExponent e
     → accepts (Some q) (w ++ (pointed o ++ marked e)) ≡ true
 whole_accepted q (d ∷ w) o e digit point hw ho some x =
-    digit_step q d (w ++ (pointed o ++ marked e)) (and_left _ _ hw)
+    digit_step q d (w ++ (pointed o ++ marked e)) (and-left _ _ hw)
     ∙ ap (λ (r : Option Place). accepts r (w ++ (pointed o ++ marked e))) digit
-    ∙ digits_on Whole w (pointed o ++ marked e) refl (and_right _ _ hw)
+    ∙ digits_on Whole w (pointed o ++ marked e) refl (and-right _ _ hw)
     ∙ decimals_accepted o e ho x
 whole_accepted q [] None e digit point hw ho some x = absurd (omega arith)
 whole_accepted q [] (Some []) e digit point hw ho some x = absurd (omega arith)
 whole_accepted q [] (Some (d ∷ ds)) e digit point hw ho some x =
     step_by q 46 ((d ∷ ds) ++ marked e) Point kind_point
     ∙ ap (λ (r : Option Place). accepts r ((d ∷ ds) ++ marked e)) point
-    ∙ digit_step Dot d (ds ++ marked e) (and_left _ _ ho)
-    ∙ digits_on Decimals ds (marked e) refl (and_right _ _ ho)
+    ∙ digit_step Dot d (ds ++ marked e) (and-left _ _ ho)
+    ∙ digits_on Decimals ds (marked e) refl (and-right _ _ ho)
     ∙ exponent_accepted Decimals e refl refl x
 
 signed_accepted : (s w : List ℕ) (o : Option (List ℕ)) (e : Option Exponent) → IsOptionalSign s

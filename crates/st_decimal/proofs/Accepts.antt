@@ -1,9 +1,9 @@
 -- The bytes of a number, read byte by byte from a place on: whether a number may end behind them.
 use Rattle.std.proofs.Common.{◌≡◌, ℕ, Bool, true, false, List, [], ◌∷◌, ◌++◌, Option, Some, None, refl, ◌∙◌, ap, arith}
 use Rattle.std.proofs.lemmas.Bool.Decides.{nat_tests}
-use Rattle.st_decimal.proofs.ZeroDigits.{and_left, and_right}
 use Rattle.std.specs.Char.{is_ascii_digit}
 use Rattle.std.specs.Prelude.{◌==◌, if◌then◌else◌}
+use Rattle.st_text.proofs.Logic.{and-left, and-right}
 use Rattle.st_text.specs.Bytes.{are_digits}
 use Rattle.st_decimal.specs.declared.place.Kind.{Kind}
 use Rattle.st_decimal.specs.declared.place.Kind.TheVariants.{Digit, Sign, Point, Mark, Other}
@@ -84,9 +84,9 @@ digit_step q b t h = step_by q b t Digit (kind_digit b h)
 pub digits_on : (q : Place) (ds t : List ℕ) → on_digit q ≡ Some q → are_digits ds ≡ true → accepts (Some q) (ds ++ t) ≡ accepts (Some q) t
 digits_on q [] t stays h = refl
 digits_on q (d ∷ ds) t stays h =
-    digit_step q d (ds ++ t) (and_left _ _ h) ∙ ap (λ (o : Option Place). accepts o (ds ++ t)) stays ∙ digits_on q ds t stays (and_right _ _ h)
+    digit_step q d (ds ++ t) (and-left _ _ h) ∙ ap (λ (o : Option Place). accepts o (ds ++ t)) stays ∙ digits_on q ds t stays (and-right _ _ h)
 
 pub digits_end : (q : Place) (ds : List ℕ) → on_digit q ≡ Some q → are_digits ds ≡ true → accepts (Some q) ds ≡ is_end_of q
 digits_end q [] stays h = refl
 digits_end q (d ∷ ds) stays h =
-    digit_step q d ds (and_left _ _ h) ∙ ap (λ (o : Option Place). accepts o ds) stays ∙ digits_end q ds stays (and_right _ _ h)
+    digit_step q d ds (and-left _ _ h) ∙ ap (λ (o : Option Place). accepts o ds) stays ∙ digits_end q ds stays (and-right _ _ h)

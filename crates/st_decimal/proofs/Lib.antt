@@ -1,13 +1,14 @@
+pub mod Accepted
+pub mod Accepts
+pub mod Answered
+pub mod FixedDecimals
 mod FixedExamples
 mod NumberExamples
-pub mod FixedDecimals
-pub mod ZeroDigits
-pub mod ValueCode
-pub mod Accepts
-pub mod Accepted
-pub mod Sound
-pub mod Stops
 pub mod PieceLaws
 pub mod Scaled
-pub mod Answered
 pub mod ScalingLaws
+pub mod Sound
+pub mod Stops
+pub mod Stripped
+pub mod ValueCode
+pub mod ZeroDigits

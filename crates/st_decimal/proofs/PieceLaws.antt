@@ -1,14 +1,15 @@
 -- The pieces of a number's text are those of its parts.
-use Rattle.std.proofs.Common.{◌≡◌, ℕ, ◌+◌, ◌-◌, ◌<◌, Bool, true, false, List, [], ◌∷◌, ◌++◌, length, take, Option, Some, None, refl, ◌∙◌, ap, arith, length-append}
-use Rattle.std.proofs.lemmas.List.{take_at}
+use Rattle.std.proofs.Common.{◌≡◌, ℕ, ◌+◌, ◌<◌, Bool, true, false, List, [], ◌∷◌, ◌++◌, length, Option, Some, None, refl, ◌∙◌, ap, arith}
 use Rattle.std.proofs.lemmas.Bool.Decides.{nat_tests}
 use Rattle.std.specs.Char.{is_ascii_digit}
 use Rattle.std.specs.Prelude.{◌==◌}
 use Rattle.st_text.specs.Bytes.{are_digits, number_of}
+use Rattle.st_text.specs.Scan.{leading_digits, past_digits}
+use Rattle.st_text.proofs.Logic.{and-left}
+use Rattle.st_text.proofs.Runs.{Stops, leading-at, behind-at}
 use Rattle.st_decimal.specs.Number.{Exponent, Parts, AreParts, IsOptionalSign, IsOptionalExponent, is_sign, is_mark, pointed, marked, spelling, decimals_of}
 use Rattle.st_decimal.specs.Value.{is_minus, signed, exponent_of, exponent_size}
-use Rattle.st_decimal.specs.NumberMachine.{Pieces, pieces_of, behind_sign, behind_digits, leading_digits, decimals_in, behind_decimals, behind_mark}
-use Rattle.st_decimal.proofs.ZeroDigits.{and_left, and_right}
+use Rattle.st_decimal.specs.NumberMachine.{Pieces, pieces_of, behind_sign, decimals_in, behind_decimals, behind_mark}
 
 abbrev starts_digit : List ℕ → Bool
 starts_digit [] = false
@@ -32,24 +33,18 @@ no_sign_no_minus b h = grind (arith, nat_tests)
 
 digits_no_sign : (ds : List ℕ) → are_digits ds ≡ true → starts_sign ds ≡ false
 digits_no_sign [] h = refl
-digits_no_sign (d ∷ ds) h = digit_no_sign d (and_left _ _ h)
+digits_no_sign (d ∷ ds) h = digit_no_sign d (and-left _ _ h)
 
 -- digits and what follows them
-behind_digits_rest : (r : List ℕ) → starts_digit r ≡ false → behind_digits r ≡ r
-behind_digits_rest [] h = refl
-behind_digits_rest (b ∷ t) h = rw h refl
+stops : (r : List ℕ) → starts_digit r ≡ false → Stops is_ascii_digit r
+stops [] n = tt
+stops (b ∷ t) n = n
 
-behind_digits-append : (w r : List ℕ) → are_digits w ≡ true → starts_digit r ≡ false → behind_digits (w ++ r) ≡ r
-behind_digits-append [] r h n = behind_digits_rest r n
-behind_digits-append (x ∷ w) r h n =
-    let d : is_ascii_digit x ≡ true = and_left _ _ h in
-    rw d (behind_digits-append w r (and_right _ _ h) n)
+past_digits-append : (w r : List ℕ) → are_digits w ≡ true → starts_digit r ≡ false → past_digits (w ++ r) ≡ r
+past_digits-append w r h n = behind-at is_ascii_digit w r h (stops r n)
 
 leading_digits-append : (w r : List ℕ) → are_digits w ≡ true → starts_digit r ≡ false → leading_digits (w ++ r) ≡ w
-leading_digits-append w r h n =
-    let count : length (w ++ r) - length (behind_digits (w ++ r)) ≡ length w =
-    omega (arith, length-append w r, ap length (behind_digits-append w r h n)) in
-    ap (λ (k : ℕ). take k (w ++ r)) count ∙ take_at w r (length w) refl
+leading_digits-append w r h n = leading-at is_ascii_digit w r h (stops r n)
 
 -- a sign and what follows it
 behind_sign_rest : (r : List ℕ) → starts_sign r ≡ false → behind_sign r ≡ r
@@ -81,7 +76,7 @@ decimals_no_digit (Some ds) e x = refl
 
 whole_no_sign : (w : List ℕ) (o : Option (List ℕ)) (e : Option Exponent) → are_digits w ≡ true → 0 < length w + length (decimals_of o)
     → starts_sign (w ++ (pointed o ++ marked e)) ≡ false
-whole_no_sign (d ∷ w) o e h some = digit_no_sign d (and_left _ _ h)
+whole_no_sign (d ∷ w) o e h some = digit_no_sign d (and-left _ _ h)
 whole_no_sign [] None e h some = absurd (omega arith)
 whole_no_sign [] (Some ds) e h some = refl
 
@@ -95,7 +90,7 @@ behind_decimals-append : (o : Option (List ℕ)) (e : Option Exponent) → are_d
     → behind_decimals (pointed o ++ marked e) ≡ marked e
 behind_decimals-append None None h x = refl
 behind_decimals-append None (Some e) h x = rw (mark_no_point e.mark x.mark) refl
-behind_decimals-append (Some ds) e h x = behind_digits-append ds (marked e) h (exponent_no_digit e x)
+behind_decimals-append (Some ds) e h x = past_digits-append ds (marked e) h (exponent_no_digit e x)
 
 abbrev pub minus_of : Option Exponent → Bool
 minus_of None = false
@@ -154,7 +149,7 @@ pieces_of-spelling p h =
     let no_sign : starts_sign body ≡ false = whole_no_sign p.whole p.decimals p.exponent h.whole h.some in
     let no_digit : starts_digit (pointed p.decimals ++ marked p.exponent) ≡ false = decimals_no_digit p.decimals p.exponent h.exponent in
     let unsigned = behind_sign-append p.sign body h.sign no_sign in
-    let after = ap behind_digits unsigned ∙ behind_digits-append p.whole (pointed p.decimals ++ marked p.exponent) h.whole no_digit in
+    let after = ap past_digits unsigned ∙ past_digits-append p.whole (pointed p.decimals ++ marked p.exponent) h.whole no_digit in
     let raised = ap behind_mark (ap behind_decimals after ∙ behind_decimals-append p.decimals p.exponent h.decimals h.exponent) in
     same_pieces _ _ _ _ _ _ _ _ _ _
     (is_minus-append p.sign body h.sign no_sign)

@@ -132,6 +132,3 @@ size_of_times n (negsuc k) u is = sym (unsigned_abs-mul u (pos (10 ^ suc k))) �
 pub sign_of_times : (n power u : ℤ) → IsTimesTen n power u → with_sign_of n (unsigned_abs u) ≡ u
 sign_of_times n (pos k) u is = times_sign n (unsigned_abs u) (10 ^ k) (size_of_times n (pos k) u is) ∙ sym is
 sign_of_times n (negsuc k) u is = ap (λ (z : ℤ). with_sign_of z (unsigned_abs u)) (sym is) ∙ kept_sign u (10 ^ suc k) (power_some (suc k))
-
-pub same_some : (m n : ℕ) → Some m ≡ Some n → m ≡ n
-same_some m n h = cc

@@ -7,18 +7,19 @@ use Rattle.std.proofs.lemmas.Bool.{ltb-false}
 use Rattle.std.proofs.Math.Nat.{pow-le-pow_right, mul-le-mul_right}
 use Rattle.std.specs.Char.{is_ascii_digit}
 use Rattle.std.specs.Prelude.{if◌then◌else◌}
+use Rattle.st_text.proofs.Logic.{and-left, and-right}
 use Rattle.st_text.specs.Bytes.{number_of, are_digits}
 use Rattle.st_decimal.specs.declared.number.Dec.{Dec}
 use Rattle.st_decimal.specs.declared.number.DecFault.{DecFault}
 use Rattle.st_decimal.specs.Value.{is_zero, are_zeros, skip_zeros, without_end_zeros, significant, signed}
 use Rattle.st_decimal.specs.NumberMachine.{value_of, scaled_dec}
-use Rattle.st_decimal.proofs.ZeroDigits.{and_left, and_right, digit_range, not_zero}
+use Rattle.st_decimal.proofs.ZeroDigits.{digit_range, not_zero}
 
 pub front_digits : (xs ys : List ℕ) → are_digits (xs ++ ys) ≡ true → are_digits xs ≡ true
-front_digits xs ys h = and_left (are_digits xs) (are_digits ys) (sym (list_all-append is_ascii_digit xs ys) ∙ h)
+front_digits xs ys h = and-left (are_digits xs) (are_digits ys) (sym (list_all-append is_ascii_digit xs ys) ∙ h)
 
 pub back_digits : (xs ys : List ℕ) → are_digits (xs ++ ys) ≡ true → are_digits ys ≡ true
-back_digits xs ys h = and_right (are_digits xs) (are_digits ys) (sym (list_all-append is_ascii_digit xs ys) ∙ h)
+back_digits xs ys h = and-right (are_digits xs) (are_digits ys) (sym (list_all-append is_ascii_digit xs ys) ∙ h)
 
 pub both_true : (a b : Bool) → a ≡ true → b ≡ true → (a && b) ≡ true
 both_true true b p q = q
@@ -33,7 +34,7 @@ skip_by x xs false h rest = h
 
 pub skip_digits : (xs : List ℕ) → are_digits xs ≡ true → are_digits (skip_zeros xs) ≡ true
 skip_digits [] h = refl
-skip_digits (x ∷ xs) h = skip_by x xs (is_zero x) h (skip_digits xs (and_right _ _ h))
+skip_digits (x ∷ xs) h = skip_by x xs (is_zero x) h (skip_digits xs (and-right _ _ h))
 
 end_by : (x : ℕ) (xs : List ℕ) (z : Bool) → is_ascii_digit x ≡ true → are_digits (without_end_zeros xs) ≡ true → are_digits (if z then [] else x ∷ without_end_zeros xs) ≡ true
 end_by x xs true h rest = refl
@@ -41,7 +42,7 @@ end_by x xs false h rest = both_true (is_ascii_digit x) (are_digits (without_end
 
 pub end_digits : (xs : List ℕ) → are_digits xs ≡ true → are_digits (without_end_zeros xs) ≡ true
 end_digits [] h = refl
-end_digits (x ∷ xs) h = end_by x xs (are_zeros (x ∷ xs)) (and_left _ _ h) (end_digits xs (and_right _ _ h))
+end_digits (x ∷ xs) h = end_by x xs (are_zeros (x ∷ xs)) (and-left _ _ h) (end_digits xs (and-right _ _ h))
 
 shorter_by : (x : ℕ) (xs : List ℕ) (z : Bool) → length (without_end_zeros xs) ≤ length xs → length (if z then [] else x ∷ without_end_zeros xs) ≤ length (x ∷ xs)
 shorter_by x xs true h = omega arith
@@ -64,7 +65,7 @@ many_by x xs false e d rest h =
 
 pub many_digits : (xs : List ℕ) → are_digits xs ≡ true → 3 < length (skip_zeros xs) → 400 < number_of (skip_zeros xs)
 many_digits [] d h = absurd (omega arith)
-many_digits (x ∷ xs) d h = many_by x xs (is_zero x) refl (and_left _ _ d) (many_digits xs (and_right _ _ d)) h
+many_digits (x ∷ xs) d h = many_by x xs (is_zero x) refl (and-left _ _ d) (many_digits xs (and-right _ _ d)) h
 
 pub two_pieces : (a b l k : ℕ) → a < 10 ^ l → b < 10 ^ k → l + k ≤ 30 → a * 10 ^ k + b < 10 ^ 30
 two_pieces a b l k p q h =

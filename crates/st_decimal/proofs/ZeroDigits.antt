@@ -3,6 +3,7 @@ use Rattle.std.proofs.Common.{◌≡◌, ◌≢◌, ℕ, ◌-◌, ◌*◌, ◌%�
 use Rattle.std.proofs.lemmas.Grind.{common_steps}
 use Rattle.std.proofs.lemmas.List.{length-replicate}
 use Rattle.std.proofs.lemmas.List.Folds.{list_all-append}
+use Rattle.st_text.proofs.Logic.{and-left, and-right}
 use Rattle.st_text.proofs.Trimmed.{front_and_last}
 use Rattle.st_text.proofs.Numbers.{number_of-append, number_of-push}
 use Rattle.std.proofs.lemmas.Bool.Decides.{nat_tests}
@@ -39,14 +40,6 @@ skip_zeros_all (x ∷ xs) ys h = grind (arith, common_steps, skip_zeros_all xs y
 pub skip_zeros_some : (xs ys : List ℕ) → are_zeros xs ≡ false → skip_zeros (xs ++ ys) ≡ skip_zeros xs ++ ys
 skip_zeros_some [] ys h = absurd (cc)
 skip_zeros_some (x ∷ xs) ys h = grind (arith, common_steps, skip_zeros_some xs ys)
-
-pub and_left : (a b : Bool) → (a && b) ≡ true → a ≡ true
-and_left true b h = refl
-and_left false b h = absurd (cc)
-
-pub and_right : (a b : Bool) → (a && b) ≡ true → b ≡ true
-and_right true b h = h
-and_right false b h = absurd (cc)
 
 pub and_first : (a b : Bool) → (a && b) ≡ false → b ≡ true → a ≡ false
 and_first true b h e = absurd (cc)
@@ -90,7 +83,7 @@ skipped x xs false e h = refl
 -- zeros that are cut off at the end are a power of ten
 all_zeros : (xs : List ℕ) → are_zeros xs ≡ true → xs ≡ replicate (length xs) 48
 all_zeros [] h = refl
-all_zeros (x ∷ xs) h = same_cons (zero_byte x (and_left _ _ h)) (all_zeros xs (and_right _ _ h))
+all_zeros (x ∷ xs) h = same_cons (zero_byte x (and-left _ _ h)) (all_zeros xs (and-right _ _ h))
 
 cut : (x : ℕ) (xs : List ℕ) (z : Bool) → are_zeros (x ∷ xs) ≡ z → xs ≡ without_end_zeros xs ++ replicate (length xs - length (without_end_zeros xs)) 48
     → x ∷ xs ≡ (if z then [] else x ∷ without_end_zeros xs) ++ replicate (length (x ∷ xs) - length (if z then [] else x ∷ without_end_zeros xs)) 48
@@ -102,14 +95,14 @@ cut x xs false e h =
     ap (λ (ys : List ℕ). x ∷ ys) (h ∙ ap (λ (n : ℕ). without_end_zeros xs ++ replicate {A = ℕ} n 48) fewer)
 
 rest_digits : (x : ℕ) (xs : List ℕ) → are_digits (x ∷ xs) ≡ true → are_digits xs ≡ true
-rest_digits x xs h = and_right _ _ h
+rest_digits x xs h = and-right _ _ h
 
 last_of : (x : ℕ) (xs : List ℕ) (z : Bool) → are_zeros (x ∷ xs) ≡ z → are_digits (x ∷ xs) ≡ true → (without_end_zeros xs ≡ []) ⊎ EndsNonzero (without_end_zeros xs)
     → ((if z then [] else x ∷ without_end_zeros xs) ≡ []) ⊎ EndsNonzero (if z then [] else x ∷ without_end_zeros xs)
 last_of x xs true e h rest = inl refl
 last_of x xs false e h (inl none) =
     let other = and_first _ _ e (all_from_none xs none) in
-    let digit = digit_range x (and_left _ _ h) in
+    let digit = digit_range x (and-left _ _ h) in
     inr (record {
       front = [];
       last = x;

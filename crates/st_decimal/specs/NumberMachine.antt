@@ -1,7 +1,8 @@
 -- The reader of numbers as functions on lists of bytes, each the twin of a function of the code.
-use Rattle.std.specs.Prelude.{ℕ, ℤ, pos, ◌+ℤ◌, ◌-ℤ◌, ◌+◌, ◌-◌, Bool, true, false, List, [], ◌∷◌, ◌++◌, length, take, Option, Some, None, Result, Ok, Err, ◌==◌, nat_lt, if◌then◌else◌}
+use Rattle.std.specs.Prelude.{ℕ, ℤ, pos, ◌+ℤ◌, ◌-ℤ◌, ◌+◌, ◌-◌, Bool, true, false, List, [], ◌∷◌, ◌++◌, length, Option, Some, None, Result, Ok, Err, ◌==◌, nat_lt, if◌then◌else◌}
 use Rattle.std.specs.Char.{is_ascii_digit}
 use Rattle.st_text.specs.Bytes.{number_of}
+use Rattle.st_text.specs.Scan.{leading_digits, past_digits}
 use Rattle.st_decimal.specs.declared.number.Dec.{Dec}
 use Rattle.st_decimal.specs.declared.number.DecFault.{DecFault}
 use Rattle.st_decimal.specs.declared.number.DecFault.TheVariants.{Empty, BadByte, TooManyDigits, BadExponent}
@@ -69,13 +70,6 @@ abbrev pub behind_sign : List ℕ → List ℕ
 behind_sign [] = []
 behind_sign (b ∷ bs) = if is_sign b then bs else b ∷ bs
 
-abbrev pub behind_digits : List ℕ → List ℕ
-behind_digits [] = []
-behind_digits (b ∷ bs) = if is_ascii_digit b then behind_digits bs else b ∷ bs
-
-abbrev pub leading_digits : List ℕ → List ℕ
-leading_digits text = take (length text - length (behind_digits text)) text
-
 -- the digits behind a point, and what follows them
 abbrev pub decimals_in : List ℕ → List ℕ
 decimals_in [] = []
@@ -83,7 +77,7 @@ decimals_in (b ∷ bs) = if b == 46 then leading_digits bs else []
 
 abbrev pub behind_decimals : List ℕ → List ℕ
 behind_decimals [] = []
-behind_decimals (b ∷ bs) = if b == 46 then behind_digits bs else b ∷ bs
+behind_decimals (b ∷ bs) = if b == 46 then past_digits bs else b ∷ bs
 
 abbrev pub behind_mark : List ℕ → List ℕ
 behind_mark [] = []
@@ -98,13 +92,13 @@ pub record Pieces : Type 0 where
   pub exponent : List ℕ
 
 abbrev pub raised_in : List ℕ → List ℕ
-raised_in text = behind_mark (behind_decimals (behind_digits (behind_sign text)))
+raised_in text = behind_mark (behind_decimals (past_digits (behind_sign text)))
 
 unfoldable pub pieces_of : List ℕ → Pieces
 pieces_of text = record {
   minus = is_minus text;
   whole = leading_digits (behind_sign text);
-  decimals = decimals_in (behind_digits (behind_sign text));
+  decimals = decimals_in (past_digits (behind_sign text));
   exponent_minus = is_minus (raised_in text);
   exponent = behind_sign (raised_in text);
 }

@@ -1,5 +1,5 @@
 -- The value of a number's parts, and the answer of the reader of numbers.
-use Rattle.std.specs.Prelude.{◌≡◌, ◌≢◌, ℕ, zero, suc, ℤ, pos, neg_ℤ, ◌+ℤ◌, ◌-ℤ◌, ◌*◌, ◌%◌, ◌^◌, ◌<◌, ◌≤◌, Bool, true, false, List, [], ◌∷◌, ◌++◌, length, Option, Some, None, Result, Ok, Err, ◌==◌, if◌then◌else◌}
+use Rattle.std.specs.Prelude.{◌≡◌, ◌≢◌, ℕ, zero, suc, ℤ, pos, negsuc, neg_ℤ, ◌+ℤ◌, ◌-ℤ◌, ◌*◌, ◌%◌, ◌^◌, ◌<◌, ◌≤◌, Bool, true, false, List, [], ◌∷◌, ◌++◌, length, Option, Some, None, Result, Ok, Err, ◌==◌, if◌then◌else◌, unsigned_abs}
 use Rattle.std.specs.List.{list_all}
 use Rattle.st_text.specs.Bytes.{number_of}
 use Rattle.st_decimal.specs.declared.number.Dec.{Dec}
@@ -37,6 +37,10 @@ abbrev pub is_minus : List ℕ → Bool
 is_minus [] = false
 is_minus (b ∷ more) = b == 45
 
+abbrev pub is_negative : ℤ → Bool
+is_negative (pos n) = false
+is_negative (negsuc n) = true
+
 -- a magnitude with its sign
 abbrev pub signed : Bool → ℕ → ℤ
 signed true n = neg_ℤ (pos n)
@@ -57,6 +61,10 @@ abbrev pub IsScaled : Bool → ℕ → ℤ → Dec → Type 0
 IsScaled minus zero tens d = (d.digits ≡ pos 0) × (d.tens ≡ pos 0)
 IsScaled minus (suc n) tens d =
     (m k : ℕ) × (suc n ≡ m * 10 ^ k) × (m % 10 ≢ 0) × (d.digits ≡ signed minus m) × (d.tens ≡ (tens +ℤ pos k))
+
+-- the decimal of a count of units of 10^-18
+abbrev pub IsOfUnits18 : ℤ → Dec → Type 0
+IsOfUnits18 units d = IsScaled (is_negative units) (unsigned_abs units) (negsuc 17) d
 
 -- the digits without the point, times ten to the exponent less the count of decimals
 abbrev pub IsValue : Parts → Dec → Type 0

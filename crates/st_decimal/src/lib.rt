@@ -12,6 +12,8 @@ mod pieces;
 mod place;
 mod read;
 mod scaling;
+mod sign;
+mod units;
 mod value;
 mod zeros;
 
@@ -22,3 +24,4 @@ pub use memory::OutOfMemory;
 pub use name_list::NameList;
 pub use number::{Dec, DecFault};
 pub use read::read_dec;
+pub use sign::signed;

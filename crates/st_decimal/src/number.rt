@@ -1,6 +1,7 @@
 //! Exact decimals, and their texts as kernels write them.
 
 use crate::scaling::{narrowed, times_ten};
+use crate::units::from_units;
 use thiserror::Error;
 
 /// An exact decimal, `digits * 10^tens`.
@@ -13,8 +14,11 @@ pub struct Dec {
 }
 
 impl Dec {
-    ghost use Rattle.std.specs.Prelude.{◌≡◌, ◌↔◌, ℤ, Some, IfSome, IsNone};
+    ghost use Rattle.std.specs.Prelude.{◌≡◌, ◌↔◌, ◌<◌, ◌^◌, ℤ, Some, IfSome, IsNone, unsigned_abs};
     ghost use Rattle.st_decimal.specs.Scaling.{IsUnits18, IsWhole};
+    ghost use Rattle.st_decimal.specs.ScalingMachine.{dec_of_units18};
+    ghost use Rattle.st_decimal.specs.Value.{IsOfUnits18};
+    ghost use Rattle.st_decimal.specs.declared.number.Dec.{Dec as Decimal};
 
     /// The value in units of 10^-18. None where it is no whole number of units, or where its
     /// magnitude is at least 10^38 units.
@@ -24,6 +28,17 @@ impl Dec {
         ensures none { IsNone result ↔ ((units : ℤ) → IsUnits18 self units → ⊥) }
     {
         times_ten(self.digits, i64::from(self.tens) + 18)
+    }
+
+    /// The decimal of a count of units of 10^-18, of a magnitude below 10^38: what `units18` gives is
+    /// turned back. Its digits are no multiple of ten, and zero is `Dec { 0, 0 }`.
+    pub fn from_units18(units: i128) -> Dec
+        requires { unsigned_abs units < 10 ^ 38 }
+        ensures value { IsOfUnits18 units result }
+        ensures only { (d : Decimal) → IsOfUnits18 units d → result ≡ d }
+        ensures exact { result ≡ dec_of_units18 units }
+    {
+        from_units(units)
     }
 
     /// The value as a whole number. None where it is not whole or lies outside `i64`.
@@ -75,6 +90,16 @@ mod tests {
         ];
         for (digits, tens, units) in rows {
             assert_eq!(rt; Dec { digits, tens }.units18(), units);
+        }
+        let rows = [
+            (0, 0, 0),
+            (-1_000, -1, -15),
+            (most, most, -18),
+            (5 * 10i128.pow(37), 5, 19),
+        ];
+        for (units, digits, tens) in rows {
+            assert!(rt; -most <= units && units <= most);
+            assert_eq!(rt; Dec::from_units18(units), Dec { digits, tens });
         }
         Ok(())
     }

@@ -1,9 +1,11 @@
 //! The pieces of a number's text.
 
-ghost use Rattle.std.specs.Prelude.{◌≡◌, ◌≤◌, length};
+ghost use Rattle.std.specs.Prelude.{◌≡◌};
 ghost use Rattle.st_decimal.specs.Value as value;
 ghost use Rattle.st_decimal.specs.NumberMachine as machine;
-ghost use Rattle.st_decimal.specs.NumberMachine.{behind_digits, leading_digits, pieces_of};
+ghost use Rattle.st_decimal.specs.NumberMachine.{pieces_of};
+
+use st_text::split_digits;
 
 /// What the value of a number needs of its text.
 #[derive(Clone, Copy, Debug)]
@@ -57,30 +59,6 @@ fn behind_sign(text: &[u8]) -> &[u8]
         [b'+' | b'-', rest @ ..] => rest,
         _ => text,
     }
-}
-
-/// The digits at the beginning of a text, and what follows them.
-fn split_digits(text: &[u8]) -> (&[u8], &[u8])
-    ensures digits { result.0.now ≡ leading_digits text.now }
-    ensures rest { result.1.now ≡ behind_digits text.now }
-{
-    let rest = skip_digits(text);
-    (&text[..text.len() - rest.len()], rest)
-}
-
-/// What follows the digits at the beginning of a text.
-fn skip_digits(text: &[u8]) -> &[u8]
-    ensures rest { result.now ≡ behind_digits text.now }
-    ensures short { length result.now ≤ length text.now }
-{
-    let mut rest = text;
-    while let [first, after @ ..] = rest {
-        if !first.is_ascii_digit() {
-            break;
-        }
-        rest = after;
-    }
-    rest
 }
 
 /// The digits behind the point at the beginning of a text, and what follows them.

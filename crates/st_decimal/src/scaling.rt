@@ -3,7 +3,9 @@
 ghost use Rattle.std.specs.Prelude.{◌≡◌, ◌*◌, ◌^◌, ◌<◌, ◌≤◌, ℕ, ℤ, Some, IfSome, MatchOption, unsigned_abs, FitsSigned};
 ghost use Rattle.std.specs.Int.{w64};
 ghost use Rattle.st_decimal.specs.Scaling.{IsTimesTen};
-ghost use Rattle.st_decimal.specs.ScalingMachine.{IsSizeTimesTen, with_sign_of};
+ghost use Rattle.st_decimal.specs.ScalingMachine.{IsSizeTimesTen};
+
+use crate::sign::signed_like;
 
 /// A number times ten to a power, where it is whole and its magnitude is below 10^38.
 pub fn times_ten(n: i128, power: i64) -> Option<i128>
@@ -14,14 +16,6 @@ pub fn times_ten(n: i128, power: i64) -> Option<i128>
         Some(size) => Some(signed_like(n, size)),
         None => None,
     }
-}
-
-/// A magnitude with the sign of another number.
-fn signed_like(n: i128, size: u128) -> i128
-    requires { size < 10 ^ 38 }
-    ensures { result ≡ with_sign_of n size }
-{
-    if n < 0 { -(size as i128) } else { size as i128 }
 }
 
 /// A magnitude times ten to a power, where it is whole and below 10^38.

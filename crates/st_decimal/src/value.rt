@@ -7,6 +7,7 @@ ghost use Rattle.st_decimal.specs.NumberMachine.{value_of};
 
 use crate::number::{Dec, DecFault};
 use crate::pieces::Pieces;
+use crate::sign::signed;
 use crate::zeros::{drop_zeros, skip_zeros, without_end_zeros};
 use st_text::{read_digits, read_wide_digits};
 
@@ -63,7 +64,7 @@ fn number(front: &[u8], back: &[u8]) -> u128
 }
 
 /// The exponent, or none where its magnitude is greater than 400.
-fn exponent(negative: bool, digits: &[u8]) -> Option<i32>
+fn exponent(negative: bool, digits: &[u8]) -> Option<i128>
     requires { IsTrue (are_digits digits.now) }
     ensures value { result ≡ (if nat_lt MOST_EXPONENT (number_of digits.now) then None
         else Some (spec.signed negative (number_of digits.now))) }
@@ -76,40 +77,16 @@ fn exponent(negative: bool, digits: &[u8]) -> Option<i32>
     if size > MOST_EXPONENT {
         return None;
     }
-    Some(small_signed(negative, size))
-}
-
-/// The exponent with its sign.
-fn small_signed(negative: bool, size: u64) -> i32
-    requires { size ≤ MOST_EXPONENT }
-    ensures { result ≡ spec.signed negative size }
-{
-    if negative {
-        -(size as i32)
-    } else {
-        size as i32
-    }
-}
-
-/// A number of at most 30 digits with its sign.
-fn signed(negative: bool, size: u128) -> i128
-    requires { size < 10 ^ 30 }
-    ensures { result ≡ spec.signed negative size }
-{
-    if negative {
-        -(size as i128)
-    } else {
-        size as i128
-    }
+    Some(signed(negative, u128::from(size)))
 }
 
 /// The power of ten of the last significant digit.
-fn last_tens(exponent: i32, decimals: usize, dropped: usize) -> i32
+fn last_tens(exponent: i128, decimals: usize, dropped: usize) -> i32
     requires least { negsuc 399 ≤ℤ exponent }
     requires most { exponent ≤ℤ pos 400 }
     requires decimals { decimals ≤ 1000 }
     requires dropped { dropped ≤ 1000 }
     ensures { result ≡ (exponent -ℤ pos decimals) +ℤ pos dropped }
 {
-    exponent - decimals as i32 + dropped as i32
+    (exponent - decimals as i128 + dropped as i128) as i32
 }

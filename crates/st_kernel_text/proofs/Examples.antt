@@ -1,6 +1,7 @@
 -- Small files, by the reader's machine.
 use Rattle.std.proofs.Common.{◌≡◌, ℕ, List, [], ◌∷◌, ◌++◌, Ok, refl}
 use Rattle.std.specs.Prelude.{codes, pos}
+use Rattle.st_text.specs.Scan as scan
 use Rattle.st_text.specs.Lines.{lines_of, without_cr}
 use Rattle.st_decimal.specs.NumberMachine.{dec_of, stop_of, kind_of, value_of, pieces_of, scaled_dec}
 use Rattle.st_kernel_text.specs.Bytes.{is_name_byte, is_run_byte, is_allowed}
@@ -30,7 +31,7 @@ unfolding beginning lines_of without_cr is_marker line_of is_allowed step_of is_
 strings = refl
 
 added : read_of (beginning (codes "X+=1")) ≡ Ok (record { name = codes "X"; mode = Add; values = Number (record { digits = pos 1; tens = pos 0 }) ∷ [] } ∷ [])
-unfolding beginning lines_of without_cr is_marker line_of is_allowed step_of is_name_byte is_run_byte is_name ends_in_plus put_of finish_in number_of_run dec_of stop_of kind_of value_of pieces_of scaled_dec
+unfolding beginning lines_of without_cr is_marker line_of is_allowed step_of is_name_byte is_run_byte is_name ends_in_plus put_of finish_in number_of_run dec_of stop_of kind_of value_of pieces_of scaled_dec scan.leading scan.behind
 added = refl
 
 no_name : read_of (beginning (codes "X++=1")) ≡ fails 2 NoName
@@ -70,7 +71,7 @@ unfolding beginning lines_of without_cr is_marker line_of is_allowed step_of is_
 two_texts = refl
 
 mixed : read_of (beginning (codes "X = ( 'a', 1 )")) ≡ fails 2 MixedKinds
-unfolding beginning lines_of without_cr is_marker line_of is_allowed step_of is_name_byte is_run_byte is_name ends_in_plus put_of finish_in number_of_run dec_of stop_of kind_of value_of pieces_of scaled_dec
+unfolding beginning lines_of without_cr is_marker line_of is_allowed step_of is_name_byte is_run_byte is_name ends_in_plus put_of finish_in number_of_run dec_of stop_of kind_of value_of pieces_of scaled_dec scan.leading scan.behind
 mixed = refl
 
 unclosed : read_of (beginning (codes "X = ( 'a',")) ≡ fails 2 Unclosed

@@ -15,7 +15,5 @@ pub mod ReadLines
 pub mod ReadValues
 pub mod Rows
 pub mod Runs
-pub mod Seconds
 pub mod Settled
 pub mod States
-pub mod Strip

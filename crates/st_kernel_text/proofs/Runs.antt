@@ -1,29 +1,35 @@
 -- The number that a run spells is the one that the reader answers.
-use Rattle.std.proofs.Common.{inl, inr, ◌≡◌, ℕ, ◌≤◌, Bool, List, [], ◌∷◌, length, Option, Some, None, Result, Ok, Err, refl, ap, sym, ◌∙◌, subst}
-use Rattle.std.specs.Prelude.{◌==◌, ℤ, nat_lt, MatchBool}
+use Rattle.std.proofs.Common.{inl, inr, ◌≡◌, ℕ, ◌≤◌, ◌<◌, ◌^◌, arith, Bool, List, [], ◌∷◌, length, Option, Some, None, Result, Ok, Err, refl, ap, sym, ◌∙◌, subst}
+use Rattle.std.proofs.lemmas.Int.{ints}
+use Rattle.std.specs.Prelude.{◌==◌, ℤ, pos, negsuc, unsigned_abs, nat_lt, MatchBool}
 use Rattle.std.proofs.lemmas.Bool.{cases_Bool, cond-true, cond-false, MatchBool-at_true, MatchBool-at_false, le-ltb, ltb-false}
 use Rattle.st_decimal.specs.declared.number.Dec.{Dec}
 use Rattle.st_decimal.specs.declared.number.DecFault.{DecFault}
 use Rattle.st_decimal.specs.NumberMachine.{dec_of}
-use Rattle.st_decimal.specs.Value.{ReadsDec}
+use Rattle.st_decimal.specs.ScalingMachine.{dec_of_units18}
+use Rattle.st_decimal.specs.Value.{ReadsDec, IsOfUnits18}
 use Rattle.st_decimal.proofs.Answered.{meets, one_answer}
 use Rattle.st_decimal.proofs.Scaled.{one_scaled}
+use Rattle.st_decimal.proofs.Stripped.{of_units_is}
 use Rattle.st_dates.specs.declared.fault.DateFault.{DateFault}
-use Rattle.st_dates.specs.AtDate.{ReadsAtDate, IsInRange}
+use Rattle.st_dates.specs.AtDate.{ReadsAtDate}
+use Rattle.st_dates.specs.Range.{IsInRange}
 use Rattle.st_dates.specs.AtDateMachine.{at_date_of}
 use Rattle.st_dates.proofs.DateLaws.{reads, only}
-use Rattle.st_kernel_text.specs.DateValue.{IsSeconds}
-use Rattle.st_kernel_text.specs.ValueMachine.{seconds_of, dated, numbered_value, date_number, short_number, number_of_run}
+use Rattle.st_kernel_text.specs.ValueMachine.{dated, numbered_value, date_number, short_number, number_of_run}
 use Rattle.st_kernel_text.specs.Values.{ReadsRun, ReadsDate, ReadsNumber}
-use Rattle.st_kernel_text.proofs.Seconds.{seconds_is}
 
-ranged : (t : List ℕ) (z : ℤ) → ReadsAtDate t (Ok z) → IsInRange z
-ranged t z (w, spelled, moment, inside) = inside
+in_range : (z : ℤ) → IsInRange z → unsigned_abs z < 10 ^ 38
+in_range (pos n) h = omega (arith, ints, h.1)
+in_range (negsuc n) h = omega (arith, ints, h.0)
+
+ranged : (t : List ℕ) (z : ℤ) → ReadsAtDate t (Ok z) → unsigned_abs z < 10 ^ 38
+ranged t z (w, spelled, moment, inside) = in_range z inside
 
 date_only : (t : List ℕ) (d : Dec) → ReadsDate t d → date_number t ≡ Some d
 date_only t d h =
     ap dated (only t (Ok h.instant) h.reads)
-    ∙ ap Some (one_scaled _ _ _ (seconds_of h.instant) d (seconds_is h.instant (ranged t h.instant h.reads)) h.seconds)
+    ∙ ap Some (one_scaled _ _ _ (dec_of_units18 h.instant) d (of_units_is h.instant (ranged t h.instant h.reads)) h.seconds)
 
 number_only : (t : List ℕ) (d : Dec) → ReadsNumber t d → short_number t ≡ Some d
 number_only t d h = cond-false _ _ _ (le-ltb _ _ h.short) ∙ ap numbered_value (one_answer t (Ok d) h.reads)
@@ -39,8 +45,8 @@ run_only (b ∷ t) d h =
 
 date_some : (t : List ℕ) (d : Dec) (r : Result ℤ DateFault) → ReadsAtDate t r → dated r ≡ Some d → ReadsDate t d
 date_some t d (Ok z) h e =
-    let is : seconds_of z ≡ d = cc in
-    record { instant = z; reads = h; seconds = subst (λ (x : Dec). IsSeconds z x) is (seconds_is z (ranged t z h)) }
+    let is : dec_of_units18 z ≡ d = cc in
+    record { instant = z; reads = h; seconds = subst (λ (x : Dec). IsOfUnits18 z x) is (of_units_is z (ranged t z h)) }
 date_some t d (Err f) h e = absurd (cc)
 
 number_some : (t : List ℕ) (d : Dec) (r : Result Dec DecFault) → length t ≤ 1000 → ReadsDec t r → numbered_value r ≡ Some d → ReadsNumber t d

@@ -1,5 +1,4 @@
 pub mod Bytes
-pub mod DateValue
 pub mod Fault
 pub mod Faults
 pub mod File

@@ -1,31 +1,16 @@
 -- How a value is read, as functions on bytes: each is the twin of a function of the code.
-use Rattle.std.specs.Prelude.{ℕ, zero, suc, ℤ, pos, negsuc, ◌+ℤ◌, ◌+◌, ◌/◌, ◌%◌, Bool, true, List, [], ◌∷◌, length, Option, Some, None, Result, Ok, Err, ◌==◌, nat_lt, if◌then◌else◌, unsigned_abs}
+use Rattle.std.specs.Prelude.{ℕ, ℤ, Bool, true, List, [], ◌∷◌, length, Option, Some, None, Result, Ok, Err, ◌==◌, nat_lt, if◌then◌else◌}
 use Rattle.st_decimal.specs.declared.number.Dec.{Dec}
 use Rattle.st_decimal.specs.declared.number.DecFault.{DecFault}
 use Rattle.st_decimal.specs.NumberMachine.{dec_of}
-use Rattle.st_decimal.specs.Value.{signed}
+use Rattle.st_decimal.specs.ScalingMachine.{dec_of_units18}
 use Rattle.st_dates.specs.declared.fault.DateFault.{DateFault}
 use Rattle.st_dates.specs.AtDateMachine.{at_date_of}
-use Rattle.st_kernel_text.specs.DateValue.{is_negative}
 use Rattle.st_kernel_text.specs.Grammar.{same_kind}
 use Rattle.st_kernel_text.specs.declared.value.Value.{Value}
 
--- a number without the zeros at its end, at most so many of them, and how many there were
-unfoldable pub strip_of : ℕ → ℕ → ℕ → ℕ × ℕ
-strip_of zero n zeros = (n, zeros)
-strip_of (suc more) n zeros = if n % 10 == 0 then strip_of more (n / 10) (zeros + 1) else (n, zeros)
-
-abbrev pub stripped : ℤ → ℕ × ℕ
-stripped z = strip_of 30 (unsigned_abs z) 0
-
--- units of 10^-18 s as seconds
-unfoldable pub seconds_of : ℤ → Dec
-seconds_of z =
-    if unsigned_abs z == 0 then record { digits = pos 0; tens = pos 0 }
-    else record { digits = signed (is_negative z) (stripped z).0; tens = negsuc 17 +ℤ pos (stripped z).1 }
-
 abbrev pub dated : Result ℤ DateFault → Option Dec
-dated (Ok z) = Some (seconds_of z)
+dated (Ok z) = Some (dec_of_units18 z)
 dated (Err e) = None
 
 abbrev pub numbered_value : Result Dec DecFault → Option Dec

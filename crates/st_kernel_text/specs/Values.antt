@@ -3,10 +3,9 @@
 use Rattle.std.specs.Prelude.{◌≡◌, ℕ, ℤ, ◌≤◌, Bool, not, List, [], ◌∷◌, ◌++◌, length, Ok, ◌==◌, ◌||◌, IsTrue, MatchBool, if◌then◌else◌}
 use Rattle.std.specs.List.{list_all}
 use Rattle.st_decimal.specs.declared.number.Dec.{Dec}
-use Rattle.st_decimal.specs.Value.{ReadsDec}
+use Rattle.st_decimal.specs.Value.{ReadsDec, IsOfUnits18}
 use Rattle.st_dates.specs.AtDate.{ReadsAtDate}
 use Rattle.st_kernel_text.specs.Bytes.{is_separator, is_run_byte}
-use Rattle.st_kernel_text.specs.DateValue.{IsSeconds}
 use Rattle.st_kernel_text.specs.declared.fault.TextCause.{TextCause}
 use Rattle.st_kernel_text.specs.declared.fault.TextCause.TheVariants.{BadNumber, BadDate}
 use Rattle.st_kernel_text.specs.declared.value.Value.{Value}
@@ -16,7 +15,7 @@ use Rattle.st_kernel_text.specs.declared.value.Value.TheVariants.{Number, Text}
 pub record ReadsDate (text : List ℕ) (d : Dec) : Type 0 where
   pub instant : ℤ
   pub reads : ReadsAtDate text (Ok instant)
-  pub seconds : IsSeconds instant d
+  pub seconds : IsOfUnits18 instant d
 
 -- the text is a number; no line has more than 1,000 bytes, so no number has
 pub record ReadsNumber (text : List ℕ) (d : Dec) : Type 0 where

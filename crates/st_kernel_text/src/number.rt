@@ -1,8 +1,7 @@
 //! Numbers and dates among the values.
 
-ghost use Rattle.std.specs.Prelude.{◌≡◌, ◌≤◌, ◌<◌, ◌^◌, length, unsigned_abs};
+ghost use Rattle.std.specs.Prelude.{◌≡◌};
 ghost use Rattle.st_kernel_text.specs.ValueMachine as spec;
-ghost use Rattle.st_decimal.specs.Value as decimal;
 ghost use Rattle.st_kernel_text.specs.Values as values;
 
 use crate::fault::TextCause;
@@ -50,49 +49,7 @@ fn read_date(text: &[u8]) -> Option<Dec>
     ensures { result ≡ spec.date_number text.now }
 {
     match read_at_date(text) {
-        Ok(instant) => Some(seconds(instant)),
+        Ok(instant) => Some(Dec::from_units18(instant)),
         Err(_) => None,
     }
-}
-
-/// An instant, which is a count of units of 10^-18 s, as seconds.
-#[tactic(auto, unfolding(crate::specs::ValueMachine::seconds_of))]
-fn seconds(instant: i128) -> Dec
-    requires { unsigned_abs instant < 10 ^ 30 }
-    ensures { result ≡ spec.seconds_of instant }
-{
-    if instant == 0 {
-        return Dec { digits: 0, tens: 0 };
-    }
-    let (size, zeros) = strip(instant.unsigned_abs());
-    Dec {
-        digits: signed(instant < 0, size),
-        tens: zeros as i32 - 18,
-    }
-}
-
-fn signed(negative: bool, size: u128) -> i128
-    requires { size < 10 ^ 30 }
-    ensures { result ≡ decimal.signed negative size }
-{
-    if negative {
-        -(size as i128)
-    } else {
-        size as i128
-    }
-}
-
-/// A number without the zeros at its end, at most 30 of them, and how many there were.
-fn strip(number: u128) -> (u128, u32)
-    ensures value { (result.0, result.1) ≡ spec.strip_of 30 number 0 }
-    ensures less { result.0 ≤ number }
-    ensures few { result.1 ≤ 30 }
-{
-    let mut rest = number;
-    let mut zeros = 0;
-    while zeros < 30 && rest % 10 == 0 {
-        rest /= 10;
-        zeros += 1;
-    }
-    (rest, zeros)
 }

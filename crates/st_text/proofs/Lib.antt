@@ -1,6 +1,8 @@
 mod Examples
+pub mod Logic
 pub mod Numbers
-pub mod Trimmed
-pub mod Splits
 pub mod Padded
+pub mod Runs
 pub mod Spelled
+pub mod Splits
+pub mod Trimmed

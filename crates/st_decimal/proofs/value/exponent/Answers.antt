@@ -1,6 +1,6 @@
 use Rattle.std.proofs.Common.{arith, rules, ap, ◌∙◌, ◌≡◌, true, ℕ, ℤ, length, Some}
 use Rattle.std.proofs.lemmas.Int.{to_z-of_z}
-use Rattle.std.specs.Int.{w32}
+use Rattle.std.specs.Int.{w128}
 use Rattle.st_text.specs.Bytes.{are_digits, number_of}
 use Rattle.st_decimal.specs.Value.{signed}
 use Rattle.st_decimal.proofs.ValueCode.{many_digits, skip_digits, exponent_none, exponent_some}
@@ -28,7 +28,7 @@ returns-then-size-gt-MOST_EXPONENT c =
 pub returns : goal.returns
 returns c =
     let size = c.read_digits-size.ensures.value ∙ ap number_of c.drop_zeros-digits.ensures ∙ number_of-skip_zeros c.args.digits.now in
-    let same = to_z-of_z w32 c.small_signed.result (search rules) ∙ c.small_signed.ensures ∙ ap (λ (n : ℕ). signed c.args.negative n) size in
+    let same = to_z-of_z w128 c.signed.result (search rules) ∙ c.signed.ensures ∙ ap (λ (n : ℕ). signed c.args.negative n) (c.from.ensures ∙ size) in
     record {
       value = ap (λ (z : ℤ). Some z) same ∙ exponent_some (number_of c.args.digits.now) (signed c.args.negative (number_of c.args.digits.now)) (omega (arith, size));
     }

@@ -40,7 +40,7 @@ returns c =
     let dropped : length w + length d - (length c.without_end_zeros.result.0.now + length c.without_end_zeros.result.1.now) ≡ length (w ++ d) - length (without_end_zeros (w ++ d)) =
     omega (arith, length-append w d, length-append c.without_end_zeros.result.0.now c.without_end_zeros.result.1.now, ap length c.without_end_zeros.ensures) in
     let tens = to_z-of_z w32 c.last_tens.result (search rules) ∙ c.last_tens.ensures
-    ∙ ap (λ (z : ℤ). (z -ℤ pos (length d)) +ℤ pos (length w + length d - (length c.without_end_zeros.result.0.now + length c.without_end_zeros.result.1.now))) (to_z-of_z w32 c.in-Some.exponent (search rules) ∙ raised.1)
+    ∙ ap (λ (z : ℤ). (z -ℤ pos (length d)) +ℤ pos (length w + length d - (length c.without_end_zeros.result.0.now + length c.without_end_zeros.result.1.now))) (to_z-of_z w128 c.in-Some.exponent (search rules) ∙ raised.1)
     ∙ ap (λ (n : ℕ). (signed c.args.pieces.now.exponent_negative (number_of e) -ℤ pos (length d)) +ℤ pos n) dropped in
     same_dec _ _ _ _ digits tens
     ∙ sym (value_some c.args.pieces.now.negative c.args.pieces.now.exponent_negative w d e (omega (arith, size, significant_size)) raised.0 (omega (arith, size, significant_size)))

@@ -1,14 +1,26 @@
--- The seconds of a date are what is left of its units without the zeros at their end.
-use Rattle.std.proofs.Common.{inl, inr, ◌≡◌, ◌≢◌, ℕ, ◌+◌, ◌*◌, ◌/◌, ◌%◌, ◌^◌, ◌<◌, zero, suc, Bool, refl, ap, sym, subst, arith}
+-- The decimal of a count of units is what is left of it without the zeros at its end.
+use Rattle.std.proofs.Common.{inl, inr, ◌≡◌, ◌≢◌, ℕ, ◌+◌, ◌-◌, ◌*◌, ◌/◌, ◌%◌, ◌^◌, ◌<◌, zero, suc, true, false, Bool, refl, ap, sym, ◌∙◌, subst, arith}
 use Rattle.std.specs.Prelude.{◌==◌, ℤ, pos, negsuc, ◌+ℤ◌, unsigned_abs}
 use Rattle.std.proofs.Math.Nat.{pow-suc, mul_assoc}
 use Rattle.std.proofs.lemmas.Bool.{cases_Bool, cond-true, cond-false, eqb-true, eqb-false}
-use Rattle.std.proofs.lemmas.Int.{ints}
 use Rattle.st_decimal.specs.declared.number.Dec.{Dec}
-use Rattle.st_decimal.specs.Value.{IsScaled, signed}
-use Rattle.st_dates.specs.AtDate.{IsInRange}
-use Rattle.st_kernel_text.specs.DateValue.{IsSeconds, is_negative}
-use Rattle.st_kernel_text.specs.ValueMachine.{strip_of, seconds_of}
+use Rattle.st_decimal.specs.Value.{IsScaled, IsOfUnits18, is_negative, signed}
+use Rattle.st_decimal.specs.ScalingMachine.{strip_of, dec_of_units18}
+
+pub strip_more : (z n : ℕ) → z < 38 → (n % 10 == 0) ≡ true → strip_of (38 - z) n z ≡ strip_of (38 - (z + 1)) (n / 10) (z + 1)
+unfolding strip_of
+strip_more z n h e =
+    let next : 38 - z ≡ suc (38 - (z + 1)) = omega arith in
+    ap (λ (f : ℕ). strip_of f n z) next ∙ (rw e refl)
+
+pub strip_end : (f n z : ℕ) → (n % 10 == 0) ≡ false → strip_of f n z ≡ (n, z)
+unfolding strip_of
+strip_end zero n z e = refl
+strip_end (suc f) n z e = rw e refl
+
+pub strip_none : (z n : ℕ) → 38 - z ≡ 0 → strip_of (38 - z) n z ≡ (n, z)
+unfolding strip_of
+strip_none z n h = ap (λ (f : ℕ). strip_of f n z) h
 
 record Strips (n done : ℕ) (r : ℕ × ℕ) : Type 0 where
   more : ℕ
@@ -46,27 +58,23 @@ strip_law (suc f) n done s h =
           })
     ]
 
-in_range : (z : ℤ) → IsInRange z → unsigned_abs z < 10 ^ 30
-in_range (pos n) h = omega (arith, ints, h.1)
-in_range (negsuc n) h = omega (arith, ints, h.0)
-
-scaled : (minus : Bool) (n : ℕ) → 0 < n → Strips n 0 (strip_of 30 n 0)
-    → IsScaled minus n (negsuc 17) (record { digits = signed minus (strip_of 30 n 0).0; tens = negsuc 17 +ℤ pos (strip_of 30 n 0).1 })
+scaled : (minus : Bool) (n : ℕ) → 0 < n → Strips n 0 (strip_of 38 n 0)
+    → IsScaled minus n (negsuc 17) (record { digits = signed minus (strip_of 38 n 0).0; tens = negsuc 17 +ℤ pos (strip_of 38 n 0).1 })
 scaled minus zero s h = absurd (omega (arith, s))
 scaled minus (suc n) s h =
-    ((strip_of 30 (suc n) 0).0, h.more, h.value, h.last, refl, ap (λ (k : ℕ). negsuc 17 +ℤ pos k) (omega (arith, h.count)))
+    ((strip_of 38 (suc n) 0).0, h.more, h.value, h.last, refl, ap (λ (k : ℕ). negsuc 17 +ℤ pos k) (omega (arith, h.count)))
 
 zero_scaled : (minus : Bool) (n : ℕ) → n ≡ 0 → IsScaled minus n (negsuc 17) (record { digits = pos 0; tens = pos 0 })
 zero_scaled minus zero h = (refl, refl)
 zero_scaled minus (suc n) h = absurd (omega (arith, h))
 
-pub seconds_is : (z : ℤ) → IsInRange z → IsSeconds z (seconds_of z)
-unfolding seconds_of
-seconds_is z r =
-    let P : Dec → Type 0 = IsSeconds z in
+pub of_units_is : (z : ℤ) → unsigned_abs z < 10 ^ 38 → IsOfUnits18 z (dec_of_units18 z)
+unfolding dec_of_units18
+of_units_is z r =
+    let P : Dec → Type 0 = IsOfUnits18 z in
     elim (cases_Bool (unsigned_abs z == 0)) [
       | inl y ↦ subst P (sym (cond-true _ _ _ y)) (zero_scaled (is_negative z) (unsigned_abs z) (eqb-true _ _ y))
       | inr n ↦
           let some : 0 < unsigned_abs z = omega (arith, eqb-false _ _ n) in
-          subst P (sym (cond-false _ _ _ n)) (scaled (is_negative z) (unsigned_abs z) some (strip_law 30 (unsigned_abs z) 0 some (in_range z r)))
+          subst P (sym (cond-false _ _ _ n)) (scaled (is_negative z) (unsigned_abs z) some (strip_law 38 (unsigned_abs z) 0 some r))
     ]

@@ -1,6 +1,6 @@
 use Rattle.std.proofs.Common.{◌∙◌, sym, arith, ne_eqb, eq-eqb}
-use Rattle.st_kernel_text.proofs.Strip.{strip_more, strip_end, strip_none}
-use Rattle.st_kernel_text.proofs.number.strip.Goals as goal
+use Rattle.st_decimal.proofs.Stripped.{strip_more, strip_end, strip_none}
+use Rattle.st_decimal.proofs.units.strip.Goals as goal
 
 pub loop-zeros-preserved : goal.loop-zeros-preserved
 loop-zeros-preserved c = (

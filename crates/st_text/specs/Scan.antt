@@ -1,5 +1,5 @@
 -- How a text is cut from the left: into the bytes that pass a test, and the rest.
-use Rattle.std.specs.Prelude.{ℕ, Bool, not, ◌&&◌, ◌==◌, nat_le, List, [], ◌∷◌, length, Option, Some, None, if◌then◌else◌}
+use Rattle.std.specs.Prelude.{ℕ, Bool, ◌&&◌, ◌==◌, ◌≤◌, nat_le, List, [], ◌∷◌, length, Option, Some, None, IsTrue, if◌then◌else◌}
 use Rattle.std.specs.Char.{is_ascii_digit}
 use Rattle.st_text.specs.Bytes.{are_digits}
 
@@ -18,21 +18,24 @@ unfoldable pub behind : (ℕ → Bool) → List ℕ → List ℕ
 behind p [] = []
 behind p (b ∷ t) = if p b then behind p t else b ∷ t
 
-abbrev pub digits : List ℕ → List ℕ
-digits text = leading is_ascii_digit text
+-- the digits with which a text begins, and the rest
+abbrev pub leading_digits : List ℕ → List ℕ
+leading_digits text = leading is_ascii_digit text
 
 abbrev pub past_digits : List ℕ → List ℕ
 past_digits text = behind is_ascii_digit text
-
--- a byte that isn't `-`
-abbrev pub is_no_dash : ℕ → Bool
-is_no_dash b = not (b == 45)
 
 -- what stands behind a byte with which the text begins
 unfoldable pub after : ℕ → List ℕ → Option (List ℕ)
 after byte [] = None
 after byte (b ∷ t) = if b == byte then Some t else None
 
--- whether a text is digits alone, from `low` to `high` of them
-unfoldable pub is_digits : ℕ → ℕ → List ℕ → Bool
-is_digits low high text = are_digits text && (nat_le low (length text) && nat_le (length text) high)
+-- digits alone, from `low` to `high` of them
+pub record IsDigitRun (low high : ℕ) (text : List ℕ) : Type 0 where
+  pub digits : IsTrue (are_digits text)
+  pub at_least : low ≤ length text
+  pub at_most : length text ≤ high
+
+-- the same as a test
+unfoldable pub is_digit_run : ℕ → ℕ → List ℕ → Bool
+is_digit_run low high text = are_digits text && (nat_le low (length text) && nat_le (length text) high)
