@@ -104,14 +104,14 @@ one_civil n a b h k =
     let place : day_of_year (unsigned_abs a.year) a.month a.day ≡ day_of_year (unsigned_abs b.year) b.month b.day = rw (s.year_same, s.month_same, s.day_same) refl in
     same_civil a b ys s.month_same s.day_same (h.place ∙ place ∙ sym k.place) (same_pos a.weekday b.weekday (h.weekday ∙ sym k.weekday))
 
-count_1800 : day_count (pos 1800) 1 1 ≡ 4_309_862
-count_1800 = day_count-early (pos 1800) 11799 1 1 refl (omega arith) (omega arith) (omega arith)
+count_1700 : day_count (pos 1700) 1 1 ≡ 4_273_338
+count_1700 = day_count-early (pos 1700) 11699 1 1 refl (omega arith) (omega arith) (omega arith)
 
 -- a date in the range of `civil_of` lies after the year 0
-pub year_from : (n y : ℤ) (m d : ℕ) → neg_ℤ (pos 36_600) ≤ℤ n → IsCivilDate y m d → days_from_civil y m d ≡ n +ℤ pos 10957 → pos 0 ≤ℤ y
+pub year_from : (n y : ℤ) (m d : ℕ) → neg_ℤ (pos 73_200) ≤ℤ n → IsCivilDate y m d → days_from_civil y m d ≡ n +ℤ pos 10957 → pos 0 ≤ℤ y
 year_from n y m d low h e =
-    by_lt_z y (pos 1800)
-    (λ lt. absurd (omega (arith, signed_arith, days_from_civil-day_count y m d, count_1800, day_count-lt_year y m d (pos 1800) 1 1 h (omega arith) lt)))
+    by_lt_z y (pos 1700)
+    (λ lt. absurd (omega (arith, signed_arith, days_from_civil-day_count y m d, count_1700, day_count-lt_year y m d (pos 1700) 1 1 h (omega arith) lt)))
     (λ le. omega (arith, signed_arith))
 
 pub weekday_is : (n z : ℤ) (w : ℕ) → z ≡ n +ℤ pos 10957 → w ≡ weekday_number z → pos ((w + 1) % 7) ≡ weekday_of n
@@ -140,18 +140,18 @@ place_is n year of_date m d place low high few first fits e y p =
     to_z-of_z fits ∙ e ∙ ap (λ (z : ℤ). day_number (unsigned_abs z) m d) same ∙ in_place (unsigned_abs year) m d place first there
 
 -- the day of `jiff_core`, which counts from -9999-01-01, is in range
-shifted_day : (day : ℤ) → neg_ℤ (pos 36_600) ≤ℤ day → day ≤ℤ pos 36_600 → to_z w32 (of_z w32 (to_z w32 (of_z w32 (to_z w32 (of_z w32 day) +ℤ pos 10957)) +ℤ pos 4371587)) ≡ (day +ℤ pos 10957) +ℤ pos 4371587
+shifted_day : (day : ℤ) → neg_ℤ (pos 73_200) ≤ℤ day → day ≤ℤ pos 73_200 → to_z w32 (of_z w32 (to_z w32 (of_z w32 (to_z w32 (of_z w32 day) +ℤ pos 10957)) +ℤ pos 4371587)) ≡ (day +ℤ pos 10957) +ℤ pos 4371587
 shifted_day day low high =
     let one : FitsSigned w32 day = omega (arith, signed_arith) in
     let two : FitsSigned w32 (day +ℤ pos 10957) = omega (arith, signed_arith) in
     let three : FitsSigned w32 ((day +ℤ pos 10957) +ℤ pos 4371587) = omega (arith, signed_arith) in
     rw (to_z-of_z one, to_z-of_z two) (to_z-of_z three)
 
-epoch_of : (day e : ℤ) (k : ℤ) → neg_ℤ (pos 36_600) ≤ℤ day → k ≡ (day +ℤ pos 10957) +ℤ pos 4371587 → e +ℤ pos 4371587 ≡ pos (unsigned_abs k) → e ≡ day +ℤ pos 10957
+epoch_of : (day e : ℤ) (k : ℤ) → neg_ℤ (pos 73_200) ≤ℤ day → k ≡ (day +ℤ pos 10957) +ℤ pos 4371587 → e +ℤ pos 4371587 ≡ pos (unsigned_abs k) → e ≡ day +ℤ pos 10957
 epoch_of day e k low same h = omega (arith, signed_arith, one_part k)
 
 -- the parts that the code makes of a date are the day's
-pub civil_is : (day of_date : ℤ) (m d place w : ℕ) → neg_ℤ (pos 36_600) ≤ℤ day → day ≤ℤ pos 36_600 → IsCivilDate of_date m d → days_from_civil of_date m d +ℤ pos 4371587 ≡ pos (unsigned_abs (to_z w32 (of_z w32 (to_z w32 (of_z w32 (to_z w32 (of_z w32 day) +ℤ pos 10957)) +ℤ pos 4371587)))) → place ≡ jiff_place of_date m d → w ≡ weekday_number (days_from_civil of_date m d) → IsCivil day (record { year = of_date; month = m; day = d; doy = place; weekday = (w + 1) % 7 })
+pub civil_is : (day of_date : ℤ) (m d place w : ℕ) → neg_ℤ (pos 73_200) ≤ℤ day → day ≤ℤ pos 73_200 → IsCivilDate of_date m d → days_from_civil of_date m d +ℤ pos 4371587 ≡ pos (unsigned_abs (to_z w32 (of_z w32 (to_z w32 (of_z w32 (to_z w32 (of_z w32 day) +ℤ pos 10957)) +ℤ pos 4371587)))) → place ≡ jiff_place of_date m d → w ≡ weekday_number (days_from_civil of_date m d) → IsCivil day (record { year = of_date; month = m; day = d; doy = place; weekday = (w + 1) % 7 })
 civil_is day of_date m d place w low high date e p wd =
     let epoch : days_from_civil of_date m d ≡ day +ℤ pos 10957 = epoch_of day (days_from_civil of_date m d) _ low (shifted_day day low high) e in
     let from : pos 0 ≤ℤ of_date = year_from day of_date m d low date epoch in

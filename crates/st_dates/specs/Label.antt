@@ -12,11 +12,11 @@ units seconds = seconds *ℤ pos 1_000_000_000_000_000_000
 abbrev pub formal : Label → ℤ
 formal label = units ((label.day *ℤ pos 86_400) -ℤ pos 43_200) +ℤ label.of_day
 
--- a formal count that calls take: at most 3,155,900,000 s in magnitude
+-- a formal count that calls take: at most 6,311,600,000 s in magnitude
 abbrev pub IsFormal : ℤ → Type 0
 IsFormal z =
-    (neg_ℤ (pos 3_155_900_000_000_000_000_000_000_000) ≤ℤ z)
-    × (z ≤ℤ pos 3_155_900_000_000_000_000_000_000_000)
+    (neg_ℤ (pos 6_311_600_000_000_000_000_000_000_000) ≤ℤ z)
+    × (z ≤ℤ pos 6_311_600_000_000_000_000_000_000_000)
 
 -- a label of a day of 86,400 s: what has passed of it is from 0 to less than that
 pub record IsPlainLabel (label : Label) : Type 0 where

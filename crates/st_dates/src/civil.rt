@@ -1,3 +1,5 @@
+//! The parts of a day.
+
 ghost use Rattle.std.specs.Prelude.{◌≡◌, pos, neg_ℤ, ◌≤ℤ◌};
 ghost use Rattle.st_dates.specs.Civil.{IsCivil};
 ghost use Rattle.st_dates.specs.declared.civil.Civil.{Civil as TheCivil};
@@ -21,10 +23,10 @@ pub struct Civil {
 
 /// The date, the place in its year and the weekday of a day that is counted from 2000-01-01.
 ///
-/// The day is at most 36,600 in magnitude, about a hundred years to both sides.
+/// The day is at most 73,200 in magnitude, about two hundred years to both sides.
 pub fn civil_of(day: i32) -> Civil
-    requires from { neg_ℤ (pos 36_600) ≤ℤ day }
-    requires to { day ≤ℤ pos 36_600 }
+    requires from { neg_ℤ (pos 73_200) ≤ℤ day }
+    requires to { day ≤ℤ pos 73_200 }
     ensures civil { IsCivil day result }
     ensures only { (civil : TheCivil) → IsCivil day civil → result ≡ civil }
 {
@@ -32,8 +34,8 @@ pub fn civil_of(day: i32) -> Civil
 }
 
 fn parts_of(day: i32) -> Civil
-    requires from { neg_ℤ (pos 36_600) ≤ℤ day }
-    requires to { day ≤ℤ pos 36_600 }
+    requires from { neg_ℤ (pos 73_200) ≤ℤ day }
+    requires to { day ≤ℤ pos 73_200 }
     ensures { IsCivil day result }
 {
     let date = Date::from_days_since_min((day + EPOCH + FIRST_DATE) as u32);
@@ -59,11 +61,11 @@ mod tests {
             (6_210, (2017, 1, 1, 1, 0)),
             (-36_524, (1900, 1, 1, 1, 1)),
             (36_525, (2100, 1, 1, 1, 5)),
-            (-36_600, (1899, 10, 17, 290, 2)),
-            (36_600, (2100, 3, 17, 76, 3)),
+            (-73_200, (1799, 8, 2, 214, 5)),
+            (73_200, (2200, 6, 1, 152, 0)),
         ];
         for (day, (year, month, of_month, doy, weekday)) in table {
-            assert!(rt; -36_600 <= day && day <= 36_600);
+            assert!(rt; -73_200 <= day && day <= 73_200);
             let civil = Civil {
                 year,
                 month,

@@ -28,7 +28,7 @@ pub struct Label {
 
 /// The formal count of a label, in units past J2000: every day counts 86,400 s, whatever it had.
 ///
-/// The count is at most 3,155,900,000 s in magnitude.
+/// The count is at most 6,311,600,000 s in magnitude.
 pub fn formal_of(label: Label) -> i128
     requires { IsFormal (formal label) }
     ensures { result ≡ formal label }
@@ -38,7 +38,7 @@ pub fn formal_of(label: Label) -> i128
 
 /// The label of a formal count, in units past J2000, on days of 86,400 s.
 ///
-/// The count is at most 3,155,900,000 s in magnitude.
+/// The count is at most 6,311,600,000 s in magnitude.
 pub fn label_of(formal: i128) -> Label
     requires { IsFormal formal }
     ensures inverts { count_of result ≡ formal }
