@@ -4,3 +4,6 @@ pub mod Sums
 pub mod Order
 pub mod Scale
 pub mod Ends
+pub mod Linear
+pub mod Strict
+pub mod Floors

@@ -9,7 +9,7 @@ use Rattle.st_series.specs.Enclosed.{HasSine}
 use Rattle.st_series.proofs.Sandwich.{sine_own, sine_lower-den, sine_upper-den}
 use Rattle.st_series.proofs.Terms.{sine_sum-den}
 use Rattle.st_sine.specs.Anomaly.{mean_anomaly, low_anomaly, anomaly_gap, HasAnomalySine}
-use Rattle.st_sine.proofs.Twice.{at_factor}
+use Rattle.st_fraction.proofs.Linear.{at_factor}
 use Rattle.st_sine.proofs.Carried.{sine_carried_low, sine_carried_high}
 
 -- s between l and u: m + s b is at most (u - l) b from m + l b.

@@ -14,7 +14,7 @@ use Rattle.st_series.proofs.Sandwich.{is_long, sine_sandwich, sine_own, sine_low
 use Rattle.st_series.proofs.Narrow.{long_from, sine_narrow}
 use Rattle.st_sine.specs.Anomaly.{mean_anomaly, low_anomaly, anomaly_gap}
 use Rattle.st_sine.specs.Laws.{AnomalyNarrows, AnomalyAgrees}
-use Rattle.st_sine.proofs.Twice.{at_factor}
+use Rattle.st_fraction.proofs.Linear.{at_factor}
 use Rattle.st_sine.proofs.Doubling.{sliver, sliver-pos}
 
 -- What is no larger in magnitude has smaller terms, and is long enough where the other is.

@@ -1,10 +1,11 @@
 -- Twice the angle: how products of numbers near the sine and the cosine of an angle are near those of twice the angle.
-use Rattle.std.proofs.Common.{◌≡◌, ℕ, ◌*◌, ◌<◌, ℤ, pos, ◌+ℤ◌, ◌-ℤ◌, ◌*ℤ◌, neg_ℤ, ◌≤ℤ◌, refl, sym, arith, mul-pos}
+use Rattle.std.proofs.Common.{◌≡◌, ℕ, ◌*◌, ◌<◌, ℤ, pos, ◌+ℤ◌, ◌-ℤ◌, ◌*ℤ◌, neg_ℤ, ◌≤ℤ◌, refl, arith, mul-pos}
 use Rattle.std.proofs.lemmas.Int.{ints}
 use Rattle.st_fraction.specs.Fraction.{Fraction, ◌≤ᶠ◌, whole, ◌+ᶠ◌, neg_f, ◌-ᶠ◌, ◌*ᶠ◌, IsNear}
-use Rattle.st_fraction.proofs.Ring.{ring, lin, mul-one_z}
+use Rattle.st_fraction.proofs.Ring.{ring, lin}
 use Rattle.st_fraction.proofs.Within.{Within, within_add, within_mul}
-use Rattle.st_fraction.proofs.Scale.{IsAt, at_self, at_more, at_add, at_sub, at_neg, at_mul, le_at, at_le}
+use Rattle.st_fraction.proofs.Linear.{at_factor, whole_at, times_at, near_at, at_near}
+use Rattle.st_fraction.proofs.Scale.{IsAt, at_more, at_add, at_sub, at_neg, at_mul, at_le}
 
 -- a and b within e of c and d, where b is at most 3 and c at most 2: the products are within 5 e. All at the scale m.
 pub product_near : (a b c d e m : ℤ) → Within (a -ℤ c) e → Within (b -ℤ d) e → Within b (m +ℤ m +ℤ m) → Within c (m +ℤ m)
@@ -22,25 +23,6 @@ product_near a b c d e m h k s t =
 
     sizes : (e m : ℤ) → e *ℤ (m +ℤ m +ℤ m) +ℤ (m +ℤ m) *ℤ e ≡ e *ℤ m +ℤ e *ℤ m +ℤ e *ℤ m +ℤ e *ℤ m +ℤ e *ℤ m
     sizes e m = simp ring
-
--- a fraction at a scale of which its denominator is a factor
-pub at_factor : (x : Fraction) (r m : ℕ) → x.den * r ≡ m → IsAt m x (x.num *ℤ pos r)
-at_factor x r m e = rw e at (at_more x.den r x x.num (at_self x))
-
-whole_at : (k : ℤ) (m : ℕ) → IsAt m (whole k) (k *ℤ pos m)
-whole_at k m = record { at = sym (mul-one_z (k *ℤ pos m)) }
-
-near_at : (m : ℕ) (a b e : Fraction) (x y z : ℤ) → 0 < a.den → 0 < b.den → 0 < e.den → IsAt m a x → IsAt m b y → IsAt m e z → IsNear a b e → Within (x -ℤ y) z
-near_at m a b e x y z pa pb pe ha hb he n =
-    let u = at_le m a (b +ᶠ e) x (y +ℤ z) pa (mul-pos pb pe) ha (at_add m b e y z hb he) n.above in
-    let v = at_le m b (a +ᶠ e) y (x +ℤ z) pb (mul-pos pa pe) hb (at_add m a e x z ha he) n.below in
-    record { above = omega (arith, lin); below = omega (arith, lin) }
-
-at_near : (m : ℕ) (a b e : Fraction) (x y z : ℤ) → 0 < m → IsAt m a x → IsAt m b y → IsAt m e z → Within (x -ℤ y) z → IsNear a b e
-at_near m a b e x y z some ha hb he w = record {
-  above = le_at m a (b +ᶠ e) x (y +ℤ z) some ha (at_add m b e y z hb he) (omega (arith, lin));
-  below = le_at m b (a +ᶠ e) y (x +ℤ z) some hb (at_add m a e x z ha he) (omega (arith, lin));
-}
 
 -- s and c stand for the sine and the cosine, p and q are numbers near them; t is near the sine or the cosine of twice
 -- the angle.
@@ -117,10 +99,6 @@ at_one_scale s c p q e t pt h =
     bigger : (x y z : ℤ) (m : ℕ) → Within (x -ℤ y) z → Within y (pos m +ℤ pos m) → z ≤ℤ (pos 1 *ℤ pos m) → Within x (pos m +ℤ pos m +ℤ pos m)
     bigger x y z m h k s = record { above = omega (arith, ints); below = omega (arith, ints) }
 
--- eleven times, at the scale of products
-eleven_at : (m : ℕ) (e : Fraction) (z : ℤ) → IsAt m e z → IsAt m (whole (pos 11) *ᶠ e) (pos 11 *ℤ z)
-eleven_at m e z h = let i : 1 * m ≡ m = omega arith in rw i at (at_mul 1 m (whole (pos 11)) e (pos 11) z (at_self (whole (pos 11))) h)
-
 pub sine_of_twice : (s c p q e t : Fraction) → 0 < t.den → AreClose s c p q e → IsNear t (s *ᶠ c +ᶠ c *ᶠ s) e → IsNear t (p *ᶠ q +ᶠ q *ᶠ p) (whole (pos 11) *ᶠ e)
 sine_of_twice s c p q e t pt h n =
     let m = s.den * (c.den * (p.den * (q.den * (e.den * t.den)))) in
@@ -138,7 +116,7 @@ sine_of_twice s c p q e t pt h n =
     let one = product_near _ _ _ _ _ (pos m) a.sine a.cosine a.c_small a.p_small in
     let two = product_near _ _ _ _ _ (pos m) a.cosine a.sine a.s_small a.q_small in
     at_near (m * m) t (p *ᶠ q +ᶠ q *ᶠ p) (whole (pos 11) *ᶠ e) _ _ _ mm ta
-    (at_add (m * m) (p *ᶠ q) (q *ᶠ p) _ _ (at_mul m m p q _ _ a.p_at a.q_at) (at_mul m m q p _ _ a.q_at a.p_at)) (eleven_at (m * m) e _ ea)
+    (at_add (m * m) (p *ᶠ q) (q *ᶠ p) _ _ (at_mul m m p q _ _ a.p_at a.q_at) (at_mul m m q p _ _ a.q_at a.p_at)) (times_at (pos 11) (m * m) e _ ea)
     (join (xt *ℤ pos m) (xs *ℤ xc) (xc *ℤ xs) (xp *ℤ xq) (xq *ℤ xp) _ old one two)
   where
     join : (t a b c d e : ℤ) → Within (t -ℤ (a +ℤ b)) e → Within (a -ℤ c) (e +ℤ e +ℤ e +ℤ e +ℤ e) → Within (b -ℤ d) (e +ℤ e +ℤ e +ℤ e +ℤ e) → Within (t -ℤ (c +ℤ d)) (pos 11 *ℤ e)
@@ -161,7 +139,7 @@ cosine_of_twice s c p q e t pt h n =
     let one = product_near _ _ _ _ _ (pos m) a.cosine a.cosine a.c_small a.q_small in
     let two = product_near _ _ _ _ _ (pos m) a.sine a.sine a.s_small a.p_small in
     at_near (m * m) t (q *ᶠ q -ᶠ p *ᶠ p) (whole (pos 11) *ᶠ e) _ _ _ mm ta
-    (at_sub (m * m) (q *ᶠ q) (p *ᶠ p) _ _ (at_mul m m q q _ _ a.q_at a.q_at) (at_mul m m p p _ _ a.p_at a.p_at)) (eleven_at (m * m) e _ ea)
+    (at_sub (m * m) (q *ᶠ q) (p *ᶠ p) _ _ (at_mul m m q q _ _ a.q_at a.q_at) (at_mul m m p p _ _ a.p_at a.p_at)) (times_at (pos 11) (m * m) e _ ea)
     (join (xt *ℤ pos m) (xc *ℤ xc) (xs *ℤ xs) (xq *ℤ xq) (xp *ℤ xp) _ old one two)
   where
     join : (t a b c d e : ℤ) → Within (t -ℤ (a +ℤ neg_ℤ b)) e → Within (a -ℤ c) (e +ℤ e +ℤ e +ℤ e +ℤ e) → Within (b -ℤ d) (e +ℤ e +ℤ e +ℤ e +ℤ e) → Within (t -ℤ (c +ℤ neg_ℤ d)) (pos 11 *ℤ e)
