@@ -1,6 +1,6 @@
 -- Counts that stand beside an answer and say what caused it. A count is a number of 64 bits that goes up to its
 -- type's last value and stands still there. The definitions are this project's own.
-use Rattle.std.specs.Prelude.{◌≡◌, ℕ, ◌+◌, ◌-◌, ◌^◌, ◌≤◌, min, Bool, if◌then◌else◌, Result, OnErr, MatchResult}
+use Rattle.std.specs.Prelude.{◌≡◌, ℕ, ◌+◌, ◌-◌, ◌^◌, ◌≤◌, min, Bool, if◌then◌else◌, Result, OnOk, OnErr, MatchResult}
 
 -- the count has gone up by at least n, or stands at its type's last value
 abbrev pub RoseBy : ℕ → ℕ → ℕ → Type 0
@@ -14,9 +14,10 @@ Rose before now = RoseBy 1 before now
 abbrev pub RoseBeyond : ℕ → ℕ → ℕ → Type 0
 RoseBeyond n before now = RoseBy (n + 1) before now
 
--- the count never falls, and each error has raised it
+-- the count never falls, each error has raised it, and a success leaves it as it was
 pub record HasCause {T E : Type 0} (before now : ℕ) (result : Result T E) : Type 0 where
   pub later : before ≤ now
+  pub clean : OnOk result (now ≡ before)
   pub failed : OnErr result (Rose before now)
 
 -- The count never falls. A read that gives n bytes raises it by n, up to its type's last value, and an error leaves it as it was.

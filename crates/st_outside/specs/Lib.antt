@@ -7,3 +7,5 @@ pub mod MemSource
 pub mod SafeFiles
 pub mod SafeSink
 pub mod SafeSource
+pub mod Standard
+pub mod States

@@ -1,8 +1,9 @@
 -- What contracts name of files in memory some of whose calls fail.
-use Rattle.std.specs.Prelude.{ℕ, List, Bool, Option}
+use Rattle.std.specs.Prelude.{ℕ, List, Bool, Option, Some}
 use Rattle.st_outside.specs.Causes.{FileCounts}
 use Rattle.st_outside.specs.Entries.{Entries}
 use Rattle.st_outside.specs.SafeFiles as safe
+use Rattle.st_outside.specs.States.{FilesState}
 use Rattle.st_outside.specs.declared.calls.Calls.{Calls}
 use Rattle.st_outside.specs.declared.mem_files.MemFiles.{MemFiles}
 
@@ -25,3 +26,7 @@ calls_of f = f.calls
 -- how many names weren't found, how many calls failed, and how many bytes have been given
 abbrev pub counts_of : MemFiles → FileCounts
 counts_of f = record { misses = f.files.misses; faults = f.calls.failed; taken = f.files.taken }
+
+-- all that is told of the files
+abbrev pub state_of : MemFiles → FilesState
+state_of f = record { map = Some (entries_of f); opened = is_open f; left = left_of f; counts = counts_of f }

@@ -1,6 +1,7 @@
 -- What contracts name of a source in memory some of whose reads fail.
-use Rattle.std.specs.Prelude.{ℕ, List}
+use Rattle.std.specs.Prelude.{ℕ, List, Some}
 use Rattle.st_outside.specs.SafeSource as safe
+use Rattle.st_outside.specs.States.{InputState}
 use Rattle.st_outside.specs.declared.calls.Calls.{Calls}
 use Rattle.st_outside.specs.declared.mem_source.MemSource.{MemSource}
 
@@ -15,3 +16,7 @@ taken_of s = safe.taken_of s.source
 -- the reads so far, and those that fail
 abbrev pub calls_of : MemSource → Calls
 calls_of s = s.calls
+
+-- all that is told of the source
+abbrev pub state_of : MemSource → InputState
+state_of s = record { left = Some (rest_of s); faults = (calls_of s).failed; taken = taken_of s }

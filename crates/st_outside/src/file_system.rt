@@ -1,14 +1,14 @@
 //! Real files.
 
-ghost use Rattle.std.specs.Prelude.{◌≡◌, false, None, is_some};
-ghost use Rattle.st_outside.specs.Causes.{FileCounts, no_counts};
+ghost use Rattle.std.specs.Prelude.{◌≡◌, ◌↔◌, ◌⊎◌, false, None, is_some, option_and_then};
+ghost use Rattle.st_outside.specs.Causes.{no_counts};
 
 use crate::faults::{Failed, OpenFault};
 use crate::traits::Files;
 use std::io::{ErrorKind, Read};
 use std::{fs, rt, str};
 
-/// The files of the machine, by their paths. Nothing is told of what they hold.
+/// The files of the machine, by their paths. What is left of the open file is told where its reader tells it, and no more.
 ///
 /// A path that isn't found and a name that isn't UTF-8 are missing; any other error is a fault.
 #[derive(Drop)]
@@ -23,8 +23,8 @@ pub struct FileSystem<'a, R: rt::Files> {
 impl<'a, R: rt::Files> FileSystem<'a, R> {
     /// The files that this runtime reaches, of which none is open.
     pub fn new(rt: &'a R) -> FileSystem<'a, R>
-        ensures closed { ⟦<FileSystem<'a, R> as Files>⟧.opened result ≡ false }
-        ensures counts { ⟦<FileSystem<'a, R> as Files>⟧.counts result ≡ no_counts }
+        ensures { ⟦<FileSystem<'a, R> as Files>⟧.state result
+            ≡ record { map = None; opened = false; left = None; counts = no_counts } }
     {
         FileSystem {
             rt,
@@ -37,13 +37,12 @@ impl<'a, R: rt::Files> FileSystem<'a, R> {
 }
 
 impl<'a, R: rt::Files> Files for FileSystem<'a, R> {
-    ghost map = { λ _. None };
-
-    ghost opened = { λ f. is_some f.file };
-
-    ghost left = { λ _. None };
-
-    ghost counts = { λ f. record { misses = f.misses; faults = f.faults; taken = f.taken } };
+    ghost state = { λ f. record {
+      map = None;
+      opened = is_some f.file;
+      left = option_and_then (λ file. ⟦<R::File as Read>⟧.remaining file) f.file;
+      counts = record { misses = f.misses; faults = f.faults; taken = f.taken };
+    } };
 
     fn open(&mut self, name: &[u8]) -> Result<(), OpenFault> {
         self.file = None;

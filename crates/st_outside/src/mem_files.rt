@@ -39,15 +39,9 @@ impl MemFiles {
 }
 
 impl Files for MemFiles {
-    ghost use Rattle.st_outside.specs.MemFiles.{calls_of, counts_of, entries_of, is_open, left_of};
+    ghost use Rattle.st_outside.specs.MemFiles.{calls_of, counts_of, entries_of, is_open, left_of, state_of};
 
-    ghost map = { λ f. Some (entries_of f) };
-
-    ghost opened = { is_open };
-
-    ghost left = { left_of };
-
-    ghost counts = { counts_of };
+    ghost state = { state_of };
 
     // The trait's clauses, and that the map and the list of failing calls decide.
     fn open(&mut self, name: &[u8]) -> Result<(), OpenFault>

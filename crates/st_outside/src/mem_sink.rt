@@ -44,7 +44,7 @@ impl MemSink {
 impl Sink for MemSink {
     ghost use Rattle.st_outside.specs.MemSink.{taken_by, calls_of};
 
-    ghost taken = { λ s. Some (taken_by s) };
+    ghost bytes = { λ s. Some (taken_by s) };
 
     ghost faults = { λ s. (calls_of s).failed };
 

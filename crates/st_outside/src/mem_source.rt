@@ -35,13 +35,9 @@ impl MemSource {
 }
 
 impl Source for MemSource {
-    ghost use Rattle.st_outside.specs.MemSource.{rest_of, taken_of, calls_of};
+    ghost use Rattle.st_outside.specs.MemSource.{rest_of, taken_of, calls_of, state_of};
 
-    ghost left = { λ s. Some (rest_of s) };
-
-    ghost faults = { λ s. (calls_of s).failed };
-
-    ghost taken = { taken_of };
+    ghost state = { state_of };
 
     // The trait's clauses, and that exactly the listed reads fail.
     fn read(&mut self, buf: &mut [u8]) -> Result<usize, Failed>

@@ -46,15 +46,9 @@ impl SafeFiles {
 }
 
 impl Files for SafeFiles {
-    ghost use Rattle.st_outside.specs.SafeFiles.{counts_of, entries_of, is_open, left_of};
+    ghost use Rattle.st_outside.specs.SafeFiles.{counts_of, entries_of, is_open, left_of, state_of};
 
-    ghost map = { λ f. Some (entries_of f) };
-
-    ghost opened = { is_open };
-
-    ghost left = { left_of };
-
-    ghost counts = { counts_of };
+    ghost state = { state_of };
 
     // The trait's clauses, and that the map alone decides.
     fn open(&mut self, name: &[u8]) -> Result<(), OpenFault>

@@ -36,7 +36,7 @@ impl SafeSink {
 impl Sink for SafeSink {
     ghost use Rattle.st_outside.specs.SafeSink.{taken_by};
 
-    ghost taken = { λ s. Some (taken_by s) };
+    ghost bytes = { λ s. Some (taken_by s) };
 
     ghost faults = { λ _. 0 };
 

@@ -34,13 +34,9 @@ impl SafeSource {
 }
 
 impl Source for SafeSource {
-    ghost use Rattle.st_outside.specs.SafeSource.{rest_of, taken_of};
+    ghost use Rattle.st_outside.specs.SafeSource.{rest_of, state_of, taken_of};
 
-    ghost left = { λ s. Some (rest_of s) };
-
-    ghost faults = { λ _. 0 };
-
-    ghost taken = { taken_of };
+    ghost state = { state_of };
 
     // The trait's clauses, and that no read fails.
     fn read(&mut self, buf: &mut [u8]) -> Result<usize, Failed>

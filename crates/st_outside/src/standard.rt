@@ -1,12 +1,16 @@
 //! Standard input and standard output.
 
-ghost use Rattle.std.specs.Prelude.{◌≡◌, None};
+ghost use Rattle.std.specs.Prelude.{◌≡◌, ◌<◌, ◌≤◌, length, None, IfOk, OnOk, IsErrOf, MatchResult, take};
+ghost use Rattle.std.specs.Io.{WritesAtMost};
+ghost use Rattle.std.specs.Io.KnownBytes.{Appends};
+ghost use Rattle.st_outside.specs.Causes.{HasCause};
+ghost use Rattle.st_outside.specs.Standard.{AppendsSome};
 
 use crate::faults::{Failed, SinkFault};
 use crate::traits::{Sink, Source};
 use std::io::{Read, Write};
 
-/// The bytes of a reader, such as standard input. Nothing is told of them.
+/// The bytes of a reader, such as standard input. They are told where the reader tells them.
 #[derive(Drop)]
 pub struct StdIn<I: Read + Drop> {
     reader: I,
@@ -17,8 +21,8 @@ pub struct StdIn<I: Read + Drop> {
 impl<I: Read + Drop> StdIn<I> {
     /// A source that reads from `reader`.
     pub fn new(reader: I) -> StdIn<I>
-        ensures faults { ⟦<StdIn<I> as Source>⟧.faults result ≡ 0 }
-        ensures taken { ⟦<StdIn<I> as Source>⟧.taken result ≡ 0 }
+        ensures { ⟦<StdIn<I> as Source>⟧.state result
+            ≡ record { left = I.remaining reader; faults = 0; taken = 0 } }
     {
         StdIn {
             reader,
@@ -29,11 +33,7 @@ impl<I: Read + Drop> StdIn<I> {
 }
 
 impl<I: Read + Drop> Source for StdIn<I> {
-    ghost left = { λ _. None };
-
-    ghost faults = { λ s. s.faults };
-
-    ghost taken = { λ s. s.taken };
+    ghost state = { λ s. record { left = I.remaining s.reader; faults = s.faults; taken = s.taken } };
 
     fn read(&mut self, buf: &mut [u8]) -> Result<usize, Failed> {
         match self.reader.read(buf) {
@@ -49,7 +49,8 @@ impl<I: Read + Drop> Source for StdIn<I> {
     }
 }
 
-/// A writer that is flushed at each write, such as standard output. Nothing is told of what it has.
+/// A writer that is flushed at each write, such as standard output. What it has taken isn't told, since a writer whose
+/// flush has failed may have bytes that it won't give on.
 #[derive(Drop)]
 pub struct StdOut<W: Write + Drop> {
     writer: W,
@@ -57,21 +58,34 @@ pub struct StdOut<W: Write + Drop> {
 }
 
 impl<W: Write + Drop> StdOut<W> {
+    ghost use Rattle.st_outside.specs.Standard.{written};
+
     /// A sink that writes to `writer`.
     pub fn new(writer: W) -> StdOut<W>
-        ensures { ⟦<StdOut<W> as Sink>⟧.faults result ≡ 0 }
+        ensures faults { ⟦<StdOut<W> as Sink>⟧.faults result ≡ 0 }
+        ensures written { written W.contents result ≡ W.contents writer }
     {
         StdOut { writer, faults: 0 }
     }
 }
 
 impl<W: Write + Drop> Sink for StdOut<W> {
-    ghost taken = { λ _. None };
+    ghost use Rattle.st_outside.specs.Standard.{faults_of, written};
 
-    ghost faults = { λ s. s.faults };
+    ghost bytes = { λ _. None };
 
-    // A device that takes nothing of a nonempty piece has failed, since no later write would do better.
-    fn write(&mut self, piece: &[u8]) -> Result<usize, SinkFault> {
+    ghost faults = { faults_of };
+
+    // The trait's clauses, and that the writer was handed the bytes that are told as taken and no other. A device that takes
+    // nothing of a nonempty piece has failed, since no later write would do better.
+    fn write(&mut self, piece: &[u8]) -> Result<usize, SinkFault>
+        ensures bound { WritesAtMost result piece.now }
+        ensures progress { IfOk result (λ n. 0 < length piece.now → 0 < n) }
+        ensures handed { MatchResult result
+            (λ n. Appends (written W.contents self.old) (written W.contents self.new) (take n piece.now))
+            (λ _. AppendsSome (written W.contents self.old) (written W.contents self.new) piece.now) }
+        ensures counted { HasCause (faults_of self.old) (faults_of self.new) result }
+    {
         if let Ok(n) = self.writer.write(piece)
             && (n > 0 || piece.is_empty())
             && self.writer.flush().is_ok()
