@@ -1,5 +1,5 @@
 -- How calls on files follow one another.
-use Rattle.std.proofs.Common.{◌≡◌, ◌∙◌, refl, false, sym, ap, arith}
+use Rattle.std.proofs.Common.{◌≡◌, ◌∙◌, refl, true, false, subst, arith}
 use Rattle.st_outside.specs.Causes.{AreLater, FileCounts}
 use Rattle.st_outside.specs.States.{FilesState, KeepsFiles}
 
@@ -19,14 +19,17 @@ pub KeepsFiles-same : (s : FilesState) → KeepsFiles s s
 KeepsFiles-same s = record { map = refl; counts = AreLater-same s.counts; closed = λ _. refl }
 
 -- what keeps the map, lowers no count and leaves no file open keeps the files
-pub KeepsFiles-closed : (before after : FilesState) → after.map ≡ before.map → AreLater before.counts after.counts
-    → after.opened ≡ false → KeepsFiles before after
+pub KeepsFiles-closed : (before after : FilesState) → after.map ≡ before.map
+    → AreLater before.counts after.counts → after.opened ≡ false → KeepsFiles before after
 KeepsFiles-closed before after map counts closed =
     record { map = map; counts = counts; closed = λ open_still. cc (closed, open_still) }
 
 pub KeepsFiles-trans : (a b c : FilesState) → KeepsFiles a b → KeepsFiles b c → KeepsFiles a c
-KeepsFiles-trans a b c first second = record {
-  map = second.map ∙ first.map;
-  counts = AreLater-trans _ _ _ first.counts second.counts;
-  closed = λ opened. second.closed opened ∙ first.closed (ap (λ (s : FilesState). s.opened) (sym (second.closed opened)) ∙ opened);
-}
+KeepsFiles-trans a b c first second =
+    let IsOpen : FilesState → Type 0 = λ s. s.opened ≡ true in
+    record {
+      map = second.map ∙ first.map;
+      counts = AreLater-trans _ _ _ first.counts second.counts;
+      closed = λ opened.
+          second.closed opened ∙ first.closed (subst IsOpen (second.closed opened) opened);
+    }

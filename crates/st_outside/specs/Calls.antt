@@ -1,4 +1,5 @@
--- Calls of a form in memory: which of them fail, and how many there were. The definitions are this project's own.
+-- Calls of a form in memory: which of them fail, and how many there were. The definitions are this
+-- project's own.
 use Rattle.std.specs.Prelude.{◌≡◌, ◌==◌, ℕ, ◌+◌, ◌-◌, ◌^◌, min, List, Bool}
 use Rattle.std.specs.List.{list_any}
 use Rattle.st_outside.specs.Causes.{raised_if}
@@ -18,7 +19,8 @@ pub record IsFresh (calls : Calls) (failing : List ℕ) : Type 0 where
   pub never : calls.failed ≡ 0
   pub listed : calls.failing.items ≡ failing
 
--- one more call was made, which counts as failed exactly where it was listed, and the list is as before
+-- one more call was made, which counts as failed exactly where it was listed, and the list is as
+-- before
 pub record Counted (before now : Calls) : Type 0 where
   pub made : now.made ≡ next_call before
   pub failed : now.failed ≡ raised_if (fails_next before) before.failed

@@ -1,5 +1,5 @@
--- Counts that stand beside an answer and say what caused it. A count is a number of 64 bits that goes up to its
--- type's last value and stands still there. The definitions are this project's own.
+-- Counts that stand beside an answer and say what caused it. A count is a number of 64 bits that
+-- goes up to its type's last value and stands still there. The definitions are this project's own.
 use Rattle.std.specs.Prelude.{◌≡◌, ℕ, ◌+◌, ◌-◌, ◌^◌, ◌≤◌, min, Bool, if◌then◌else◌, Result, OnOk, OnErr, MatchResult}
 
 -- the count has gone up by at least n, or stands at its type's last value
@@ -20,7 +20,8 @@ pub record HasCause {T E : Type 0} (before now : ℕ) (result : Result T E) : Ty
   pub clean : OnOk result (now ≡ before)
   pub failed : OnErr result (Rose before now)
 
--- The count never falls. A read that gives n bytes raises it by n, up to its type's last value, and an error leaves it as it was.
+-- The count never falls. A read that gives n bytes raises it by n, up to its type's last value, and
+-- an error leaves it as it was.
 pub record Counts {E : Type 0} (before now : ℕ) (result : Result ℕ E) : Type 0 where
   pub later : before ≤ now
   pub counted : MatchResult result (λ n. now ≡ min (before + n) (2 ^ 64 - 1)) (λ _. now ≡ before)

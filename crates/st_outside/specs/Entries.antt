@@ -1,5 +1,5 @@
--- Files as a map from names to bytes, both lists of bytes, kept as a list of entries. The definitions are this
--- project's own.
+-- Files as a map from names to bytes, both lists of bytes, kept as a list of entries. The
+-- definitions are this project's own.
 use Rattle.std.specs.Prelude.{◌≡◌, ◌≢◌, ℕ, List, [], ◌∷◌, Option, Some, None, if◌then◌else◌, bytes_eq, slice_index_or, ⊤}
 
 -- the names with their bytes
@@ -16,7 +16,8 @@ pub record Puts (old : Entries) (name bytes : List ℕ) (new : Entries) : Type 0
   pub here : bytes_of name new ≡ Some bytes
   pub others : (other : List ℕ) → other ≢ name → bytes_of other new ≡ bytes_of other old
 
--- where the map is told, the name is in it, and what is left to read is told and is that name's bytes
+-- where the map is told, the name is in it, and what is left to read is told and is that name's
+-- bytes
 abbrev pub Opens : Option Entries → List ℕ → Option (List ℕ) → Type 0
 Opens None name left = ⊤
 Opens (Some entries) name None = ⊥

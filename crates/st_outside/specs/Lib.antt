@@ -9,3 +9,4 @@ pub mod SafeSink
 pub mod SafeSource
 pub mod Standard
 pub mod States
+pub mod Tally

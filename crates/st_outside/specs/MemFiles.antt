@@ -29,4 +29,9 @@ counts_of f = record { misses = f.files.misses; faults = f.calls.failed; taken =
 
 -- all that is told of the files
 abbrev pub state_of : MemFiles → FilesState
-state_of f = record { map = Some (entries_of f); opened = is_open f; left = left_of f; counts = counts_of f }
+state_of f = record {
+  map = Some (entries_of f);
+  opened = is_open f;
+  left = left_of f;
+  counts = counts_of f;
+}

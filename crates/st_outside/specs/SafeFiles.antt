@@ -23,4 +23,9 @@ counts_of f = record { misses = f.misses; faults = 0; taken = f.taken }
 
 -- all that is told of the files
 abbrev pub state_of : SafeFiles → FilesState
-state_of f = record { map = Some (entries_of f); opened = is_open f; left = left_of f; counts = counts_of f }
+state_of f = record {
+  map = Some (entries_of f);
+  opened = is_open f;
+  left = left_of f;
+  counts = counts_of f;
+}

@@ -40,8 +40,8 @@ impl Bytes {
     }
 }
 
-/// Copies what stands in `from` at place `at` and after it to the front of `buf`, as far as there is room, and
-/// says how many bytes that was.
+/// Copies what stands in `from` at place `at` and after it to the front of `buf`, as far as there
+/// is room, and says how many bytes that was.
 pub fn copy_from(from: &[u8], at: usize, buf: &mut [u8]) -> usize
     ensures count { result ≡ min (length from.now - at) (length buf.old) }
     ensures bound { result ≤ length buf.new }

@@ -1,8 +1,8 @@
 //! The outside of the program: where its bytes come from and where they go.
 //!
-//! Three traits stand for it: a [`Source`] of bytes, a [`Sink`] that takes bytes, and the [`Files`] that are
-//! opened by their names. Their contracts say which bytes went over, where the implementation tells its bytes,
-//! and they tie each fault to a count that rose in that call.
+//! Three traits stand for it: a [`Source`] of bytes, a [`Sink`] that takes bytes, and the [`Files`]
+//! that are opened by their names. Their contracts say which bytes went over, where the
+//! implementation tells its bytes, and they tie each fault to a count that rose in that call.
 #![tactic(auto)]
 
 mod bytes;
@@ -17,6 +17,7 @@ mod safe_files;
 mod safe_sink;
 mod safe_source;
 mod standard;
+mod tally;
 #[cfg(test)]
 mod tests;
 mod traits;

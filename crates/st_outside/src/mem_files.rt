@@ -13,7 +13,8 @@ use crate::file_map::FileMap;
 use crate::safe_files::SafeFiles;
 use crate::traits::Files;
 
-/// Files in memory. The calls that were listed fail; a name that isn't among the files is missing otherwise.
+/// Files in memory. The calls that were listed fail; a name that isn't among the files is missing
+/// otherwise.
 #[derive(Debug, Drop)]
 pub struct MemFiles {
     files: SafeFiles,
@@ -23,8 +24,8 @@ pub struct MemFiles {
 impl MemFiles {
     ghost use Rattle.st_outside.specs.MemFiles.{calls_of, counts_of, entries_of, is_open};
 
-    /// These files, of which none is open. `failing` lists the opens and reads, counted together from 1, that
-    /// fail.
+    /// These files, of which none is open. `failing` lists the opens and reads, counted together
+    /// from 1, that fail.
     pub fn new(entries: FileMap, failing: Vec<u32>) -> MemFiles
         ensures map { entries_of result ≡ entries }
         ensures closed { is_open result ≡ false }
@@ -46,7 +47,8 @@ impl Files for MemFiles {
     // The trait's clauses, and that the map and the list of failing calls decide.
     fn open(&mut self, name: &[u8]) -> Result<(), OpenFault>
         ensures ok { OnOk result (is_open self.new ≡ true) }
-        ensures bytes { OnOk result (Opens (Some (entries_of self.old)) name.now (left_of self.new)) }
+        ensures bytes { OnOk result
+            (Opens (Some (entries_of self.old)) name.now (left_of self.new)) }
         ensures err { OnErr result (is_open self.new ≡ false) }
 
         ensures map { entries_of self.new ≡ entries_of self.old }
@@ -54,12 +56,14 @@ impl Files for MemFiles {
         ensures later { AreLater (counts_of self.old) (counts_of self.new) }
 
         ensures listed { IsErrOf result OpenFault.Failed ↔ IsTrue (fails_next (calls_of self.old)) }
-        ensures not_found { IsErrOf result OpenFault.Missing ↔ ((fails_next (calls_of self.old) ≡ false)
+        ensures not_found { IsErrOf result OpenFault.Missing
+            ↔ ((fails_next (calls_of self.old) ≡ false)
             × (bytes_of name.now (entries_of self.old) ≡ None)) }
         ensures found { IsOk result ↔ ((fails_next (calls_of self.old) ≡ false)
             × IsSome (bytes_of name.now (entries_of self.old))) }
         ensures misses { (counts_of self.new).misses ≡ raised_if
-            (not (fails_next (calls_of self.old)) && is_none (bytes_of name.now (entries_of self.old)))
+            (not (fails_next (calls_of self.old))
+            && is_none (bytes_of name.now (entries_of self.old)))
             (counts_of self.old).misses }
         ensures counted { Counted (calls_of self.old) (calls_of self.new) }
     {

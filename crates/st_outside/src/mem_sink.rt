@@ -10,8 +10,8 @@ use crate::safe_sink::SafeSink;
 use crate::traits::Sink;
 use std::alloc::Global;
 
-/// Bytes that were written, kept in memory. The writes that were listed fail; any other takes its whole piece,
-/// unless memory is refused.
+/// Bytes that were written, kept in memory. The writes that were listed fail; any other takes its
+/// whole piece, unless memory is refused.
 #[derive(Debug, Drop)]
 pub struct MemSink {
     sink: SafeSink,
@@ -21,8 +21,8 @@ pub struct MemSink {
 impl MemSink {
     ghost use Rattle.st_outside.specs.MemSink.{taken_by, calls_of};
 
-    /// A sink that has taken nothing yet and keeps its bytes in memory from `alloc`. `failing` lists the
-    /// writes, counted from 1, that fail.
+    /// A sink that has taken nothing yet and keeps its bytes in memory from `alloc`. `failing`
+    /// lists the writes, counted from 1, that fail.
     pub fn new(alloc: Global, failing: Vec<u32>) -> MemSink
         ensures taken { taken_by result ≡ [] }
         ensures calls { IsFresh (calls_of result) failing.items }

@@ -53,14 +53,16 @@ impl Files for SafeFiles {
     // The trait's clauses, and that the map alone decides.
     fn open(&mut self, name: &[u8]) -> Result<(), OpenFault>
         ensures ok { OnOk result (is_open self.new ≡ true) }
-        ensures bytes { OnOk result (Opens (Some (entries_of self.old)) name.now (left_of self.new)) }
+        ensures bytes { OnOk result
+            (Opens (Some (entries_of self.old)) name.now (left_of self.new)) }
         ensures err { OnErr result (is_open self.new ≡ false) }
 
         ensures map { entries_of self.new ≡ entries_of self.old }
         ensures taken { (counts_of self.new).taken ≡ (counts_of self.old).taken }
         ensures later { AreLater (counts_of self.old) (counts_of self.new) }
         ensures misses { (counts_of self.new).misses
-            ≡ raised_if (is_none (bytes_of name.now (entries_of self.old))) (counts_of self.old).misses }
+            ≡ raised_if (is_none (bytes_of name.now (entries_of self.old)))
+            (counts_of self.old).misses }
 
         ensures found { IsOk result ↔ IsSome (bytes_of name.now (entries_of self.old)) }
         ensures not_found { IsErrOf result OpenFault.Missing

@@ -7,7 +7,8 @@ use crate::faults::SinkFault;
 use crate::traits::Sink;
 use std::alloc::Global;
 
-/// Bytes that were written, kept in memory. A write takes its whole piece, unless memory is refused.
+/// Bytes that were written, kept in memory. A write takes its whole piece, unless memory is
+/// refused.
 #[derive(Debug, Drop)]
 pub struct SafeSink {
     bytes: Vec<u8>,

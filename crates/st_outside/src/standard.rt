@@ -1,12 +1,12 @@
 //! Standard input and standard output.
 
-ghost use Rattle.std.specs.Prelude.{◌≡◌, ◌<◌, ◌≤◌, length, None, IfOk, OnOk, IsErrOf, MatchResult, take};
+ghost use Rattle.std.specs.Prelude.{◌≡◌, ◌<◌, length, None, IfOk};
 ghost use Rattle.std.specs.Io.{WritesAtMost};
-ghost use Rattle.std.specs.Io.KnownBytes.{Appends};
 ghost use Rattle.st_outside.specs.Causes.{HasCause};
-ghost use Rattle.st_outside.specs.Standard.{AppendsSome};
+ghost use Rattle.st_outside.specs.Standard.{IsHanded};
 
 use crate::faults::{Failed, SinkFault};
+use crate::tally::Tally;
 use crate::traits::{Sink, Source};
 use std::io::{Read, Write};
 
@@ -14,8 +14,7 @@ use std::io::{Read, Write};
 #[derive(Drop)]
 pub struct StdIn<I: Read + Drop> {
     reader: I,
-    faults: u64,
-    taken: u64,
+    tally: Tally,
 }
 
 impl<I: Read + Drop> StdIn<I> {
@@ -26,31 +25,27 @@ impl<I: Read + Drop> StdIn<I> {
     {
         StdIn {
             reader,
-            faults: 0,
-            taken: 0,
+            tally: Tally::new(),
         }
     }
 }
 
 impl<I: Read + Drop> Source for StdIn<I> {
-    ghost state = { λ s. record { left = I.remaining s.reader; faults = s.faults; taken = s.taken } };
+    ghost use Rattle.st_outside.specs.Tally.{counts_of};
+
+    ghost state = { λ s. record {
+      left = I.remaining s.reader;
+      faults = (counts_of s.tally).faults;
+      taken = (counts_of s.tally).taken;
+    } };
 
     fn read(&mut self, buf: &mut [u8]) -> Result<usize, Failed> {
-        match self.reader.read(buf) {
-            Ok(n) => {
-                self.taken = self.taken.saturating_add(n as u64);
-                Ok(n)
-            }
-            Err(_) => {
-                self.faults = self.faults.saturating_add(1);
-                Err(Failed)
-            }
-        }
+        self.tally.hand_on(self.reader.read(buf))
     }
 }
 
-/// A writer that is flushed at each write, such as standard output. What it has taken isn't told, since a writer whose
-/// flush has failed may have bytes that it won't give on.
+/// A writer that is flushed at each write, such as standard output. What it has taken isn't told,
+/// since a writer whose flush has failed may have bytes that it won't give on.
 #[derive(Drop)]
 pub struct StdOut<W: Write + Drop> {
     writer: W,
@@ -76,14 +71,13 @@ impl<W: Write + Drop> Sink for StdOut<W> {
 
     ghost faults = { faults_of };
 
-    // The trait's clauses, and that the writer was handed the bytes that are told as taken and no other. A device that takes
-    // nothing of a nonempty piece has failed, since no later write would do better.
+    // The trait's clauses, and that the writer was handed the bytes that are told as taken and no
+    // other. A device that takes nothing of a nonempty piece has failed, since no later write would
+    // do better.
     fn write(&mut self, piece: &[u8]) -> Result<usize, SinkFault>
         ensures bound { WritesAtMost result piece.now }
         ensures progress { IfOk result (λ n. 0 < length piece.now → 0 < n) }
-        ensures handed { MatchResult result
-            (λ n. Appends (written W.contents self.old) (written W.contents self.new) (take n piece.now))
-            (λ _. AppendsSome (written W.contents self.old) (written W.contents self.new) piece.now) }
+        ensures handed { IsHanded (written W.contents self.old) (written W.contents self.new) result piece.now }
         ensures counted { HasCause (faults_of self.old) (faults_of self.new) result }
     {
         if let Ok(n) = self.writer.write(piece)

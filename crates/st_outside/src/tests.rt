@@ -5,9 +5,26 @@ use crate::{
     SafeSink, SafeSource, Sink, SinkFault, Source, StdIn, StdOut,
 };
 use std::alloc::{AllocError, Global};
-use std::io::{ErrorKind, Write};
+use std::io::{ErrorKind, Read, Write};
 use std::test::Fail;
 use std::{fs, io};
+
+/// A reader that gives a byte, fails, and is at its end.
+#[derive(Drop)]
+struct Reader {
+    reads: u8,
+}
+
+impl Read for Reader {
+    fn read(&mut self, buf: &mut [u8]) -> io::Result<usize> {
+        self.reads = self.reads.saturating_add(1);
+        match self.reads {
+            1 => Ok(buf.len().min(1)),
+            2 => Err(io::Error::from(ErrorKind::Other)),
+            _ => Ok(0),
+        }
+    }
+}
 
 /// A device that takes nothing, or that takes all and loses it when it is flushed.
 #[derive(Drop)]
@@ -35,10 +52,13 @@ fn two_files(alloc: Global) -> Result<FileMap, AllocError> {
 
 #[test]
 fn adapters(rt: HostRuntime) -> Result<(), Fail> {
+    // An open file stays readable when its name is removed.
     fs::write(&rt, "one", b"abc")?;
     let mut buf = [0; 8];
     let mut files = FileSystem::new(&rt);
-    files.open(b"one")?;
+    let opened = files.open(b"one");
+    fs::remove_file(&rt, "one")?;
+    assert_eq!(rt; opened, Ok(()));
     assert_eq!(rt; files.read(&mut buf), Ok(3));
     assert_eq!(rt; buf, *b"abc\0\0\0\0\0");
     assert_eq!(rt; files.read(&mut buf), Ok(0));
@@ -52,13 +72,17 @@ fn adapters(rt: HostRuntime) -> Result<(), Fail> {
         (b"two", OpenFault::Missing),
         (b"\xff", OpenFault::Missing),
         (b"one\0", OpenFault::Failed),
-        (b"one/two", OpenFault::Failed),
+        (b"/dev/null/one", OpenFault::Failed),
     ];
     for (name, fault) in refused {
         assert_eq!(rt; files.open(name), Err(fault), "{name:?}");
     }
 
     assert_eq!(rt; StdIn::new(rt.reader()).read(&mut buf), Ok(0));
+    let mut input = StdIn::new(Reader { reads: 0 });
+    for answer in [Ok(1), Err(Failed), Ok(0)] {
+        assert_eq!(rt; input.read(&mut buf), answer);
+    }
     assert_eq!(rt; StdOut::new(io::writer(&rt)).write(b"one line\n"), Ok(9));
     for takes in [false, true] {
         let mut out = StdOut::new(Device { takes });
@@ -112,5 +136,16 @@ fn streams_in_memory(rt: HostRuntime) -> Result<(), Fail> {
         assert_eq!(rt; sink.write(b"ab"), answer);
     }
     assert_eq!(rt; sink.bytes(), b"abab".as_slice());
+    Ok(())
+}
+
+#[test]
+fn faults_in_words(rt: HostRuntime) -> Result<(), Fail> {
+    let (read, write, open) = (Failed, SinkFault::Failed, OpenFault::Missing);
+    let said = format!(in rt.alloc(); "{read}; {write}; {open}")?;
+    assert_eq!(rt;
+        said.as_str(),
+        "a read failed; a write failed; there is no file of this name"
+    );
     Ok(())
 }

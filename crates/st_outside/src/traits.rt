@@ -1,8 +1,9 @@
 //! The three traits of the outside.
 //!
-//! What an implementation holds is an option in their contracts: `Some` where it tells its bytes, as those in
-//! memory do, and `None` where it can't, as those over real files. Its counts are always told. A count goes up to
-//! the last value of its type and stands still there. A call that succeeds raises no count of what went wrong.
+//! What an implementation holds is an option in their contracts: `Some` where it tells its bytes,
+//! as those in memory do, and `None` where it can't, as those over real files, of which std tells
+//! nothing. Its counts are always told. A count goes up to the last value of its type and stands
+//! still there, and a call that succeeds raises no count of what went wrong.
 
 ghost use Rattle.std.specs.Prelude.{◌≡◌, ℕ, ◌<◌, ◌≤◌, List, length, true, false, Option, IfOk, OnOk, OnErr, IsErrOf};
 ghost use Rattle.std.specs.Io.{ReadsAtMost, WritesAtMost};
@@ -15,12 +16,12 @@ use crate::faults::{Failed, OpenFault, SinkFault};
 
 /// Bytes that are read in order, such as a program's input.
 pub trait Source {
-    // the bytes that are still to be read, where they are told, how many reads have failed, and how many bytes have
-    // been given
+    // the bytes that are still to be read, where they are told, how many reads have failed, and how
+    // many bytes have been given
     ghost state: { Self → InputState };
 
-    /// Puts the next bytes at the front of `buf` and says how many. `Ok(0)` for a buffer with room means that
-    /// none are left.
+    /// Puts the next bytes at the front of `buf` and says how many. `Ok(0)` for a buffer with room
+    /// means that none are left.
     ///
     /// # Errors
     ///
@@ -40,7 +41,8 @@ pub trait Sink {
     // how many writes have failed
     ghost faults: { Self → ℕ };
 
-    /// Takes bytes from the front of `piece` and says how many: at least one, unless the piece is empty.
+    /// Takes bytes from the front of `piece` and says how many: at least one, unless the piece is
+    /// empty.
     ///
     /// # Errors
     ///
@@ -56,8 +58,9 @@ pub trait Sink {
 
 /// Files that are opened by name and read one at a time.
 pub trait Files {
-    // the files by their names, where they are told, whether one is open, what is still to be read of it, where that
-    // is told, and the counts of names that weren't found, of calls that failed and of bytes that were given
+    // the files by their names, where they are told, whether one is open, what is still to be read
+    // of it, where that is told, and the counts of names that weren't found, of calls that failed
+    // and of bytes that were given
     ghost state: { Self → FilesState };
 
     /// Closes the open file, if there is one, and opens the file of this name at its start.
@@ -75,8 +78,8 @@ pub trait Files {
         ensures taken { (state self.new).counts.taken ≡ (state self.old).counts.taken }
         ensures later { AreLater (state self.old).counts (state self.new).counts }
 
-        // With the clauses above and below, a name that isn't in a told map is Missing, unless a fault rose or memory was
-        // refused.
+        // With the clauses above and below, a name that isn't in a told map is Missing, unless a
+        // fault rose or memory was refused.
         ensures missing { IsErrOf result OpenFault.Missing
             → Rose (state self.old).counts.misses (state self.new).counts.misses }
         ensures absent { IsErrOf result OpenFault.Missing → IsAbsent (state self.old).map name.now }
