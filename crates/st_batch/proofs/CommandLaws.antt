@@ -1,16 +1,26 @@
 -- The commands: the name behind a word, and that a text is one command at most.
-use Rattle.std.proofs.Common.{◌≡◌, ℕ, ◌<◌, ◌≤◌, ◌⊎◌, inl, inr, Bool, true, false, eqb, get_or, List, [], ◌∷◌, ◌++◌, length, take, drop, codes, refl, sym, ap, ◌∙◌, subst, arith, length-append}
+use Rattle.std.proofs.Common.{◌≡◌, ℕ, ◌<◌, ◌≤◌, ◌⊎◌, inl, inr, Bool, true, false, ◌||◌, eqb, get_or, List, [], ◌∷◌, ◌++◌, length, take, drop, codes, refl, sym, ap, ◌∙◌, subst, arith, length-append}
 use Rattle.std.proofs.Math.Seq.{take-append_seam, drop-append_seam}
 use Rattle.std.proofs.lemmas.Bool.{cases_Bool, cases_lt, false≢true}
 use Rattle.std.proofs.lemmas.List.{take-append-drop}
 use Rattle.std.proofs.lemmas.Slice.Eq.{bytes_eq-Decides}
 use Rattle.std.proofs.lemmas.Str.{IsUtf8-from_is_utf8, is_utf8-from_IsUtf8}
 use Rattle.std.specs.Str.{bytes_eq, is_utf8}
+use Rattle.st_pool.specs.Loaded.{is_loaded, is_named, without_last}
+use Rattle.st_pool.specs.declared.kernel.Kernel.{Kernel}
 use Rattle.st_text.specs.Bytes.{is_blank, are_blanks}
 use Rattle.st_text.specs.Lines.{skip_blanks}
 use Rattle.st_batch.specs.Commands.{IsFileName, NamesFile, IsLoad, IsUnload, begins_command}
 use Rattle.st_batch.specs.declared.command.TheConstants.{MAX_NAME}
 use Rattle.st_batch.proofs.Tests.{and-left, and-right}
+
+or-left : (a b : Bool) → (a || b) ≡ false → a ≡ false
+or-left true b e = absurd cc
+or-left false b e = refl
+
+or-right : (a b : Bool) → (a || b) ≡ false → b ≡ false
+or-right true b e = absurd cc
+or-right false b e = e
 
 -- blanks at the front of a text are skipped
 skip-front : (blanks rest : List ℕ) → are_blanks blanks ≡ true → skip_blanks (blanks ++ rest) ≡ skip_blanks rest
@@ -111,6 +121,14 @@ unload-begins text name h = ap begins_command h.spelled
 
 pub clear-begins : (text : List ℕ) → text ≡ codes "$clear" → begins_command text ≡ true
 clear-begins text e = ap begins_command e
+
+-- a name that isn't loaded is unloaded by doing nothing
+pub not-loaded : (name : List ℕ) (loaded : List Kernel) → is_loaded name loaded ≡ false → without_last name loaded ≡ loaded
+not-loaded name [] none = refl
+not-loaded name (kernel ∷ more) none =
+    let first = or-left (is_named name kernel) (is_loaded name more) none in
+    let rest = or-right (is_named name kernel) (is_loaded name more) none in
+    rw rest (rw first refl)
 
 -- whether bytes may be a file's name, and which name a text has behind a word, can be told
 told-file-name : (name : List ℕ) → IsFileName name ⊎ (IsFileName name → ⊥)

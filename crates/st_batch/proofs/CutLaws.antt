@@ -9,7 +9,7 @@ use Rattle.st_text.specs.Lines.{lines_of, without_cr}
 use Rattle.st_text.proofs.Splits.{raw_lines-at, raw_lines-none, lines_of-first, lines_of-nil}
 use Rattle.st_batch.specs.Laws.{OneEnding}
 use Rattle.st_batch.specs.Outcome.{HasNoFeed}
-use Rattle.st_batch.specs.Progress.{CutsAtFeed, Cuts, EndsLines}
+use Rattle.st_batch.specs.LinesSteps.{CutsAtFeed, Cuts, EndsLines}
 
 -- two texts without a line feed have none together
 pub joined_no_feed : (a b : List ℕ) → HasNoFeed a → HasNoFeed b → HasNoFeed (a ++ b)

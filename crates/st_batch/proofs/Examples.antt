@@ -1,15 +1,19 @@
 -- The definitions of the session on worked values.
-use Rattle.std.proofs.Common.{◌≡◌, ℕ, zero, suc, ◌<◌, inl, inr, Some, List, [], ◌∷◌, ◌++◌, codes, refl, lit<, arith}
+use Rattle.std.proofs.Common.{◌≡◌, ℕ, zero, suc, ◌<◌, inl, inr, Some, Err, List, [], ◌∷◌, ◌++◌, codes, refl, lit<, arith}
 use Rattle.std.proofs.lemmas.Str.{IsUtf8-from_ascii}
 use Rattle.std.specs.Str.{IsAscii}
 use Rattle.st_pool.specs.declared.kernel.Kernel.{Kernel}
 use Rattle.st_text.specs.Lines.{without_cr}
 use Rattle.st_batch.specs.declared.answer.Answer.TheVariants.{Text, Refused}
+use Rattle.st_batch.specs.declared.fault.KernelFault.TheVariants as kernel_fault
 use Rattle.st_batch.specs.declared.fault.LineFault.TheVariants.{NoFile, NotLoaded}
+use Rattle.st_batch.specs.declared.job.Work.TheVariants.{Batch}
 use Rattle.st_batch.specs.declared.status.Status.TheVariants.{SomeRefused}
 use Rattle.st_batch.specs.Commands.{IsLoad, IsUnload}
-use Rattle.st_batch.specs.Outcome.{HaveEnded, line_of, status_of}
+use Rattle.st_batch.specs.Outcome.{HaveEnded, status_of}
 use Rattle.st_batch.specs.Session.{RunsTo}
+use Rattle.st_batch.specs.Setting.{Setting}
+use Rattle.st_batch.specs.Texts.{line_of}
 use Rattle.st_batch.proofs.CutLaws.{cuts-begun, cuts-join, cuts-line}
 
 abbrev kernel : List ℕ → Kernel
@@ -43,19 +47,23 @@ unload_names = record {
   is_name = record { some = lit< tt; short = omega arith; utf8 = IsUtf8-from_ascii (codes "a") (ascii 97 [] (lit< tt) ascii-none) };
 }
 
+-- what stays the same: there are no files
+abbrev here : Setting
+here = record { files = Some []; job = record { setup = []; work = Batch } }
+
 -- a session without files: a kernel that was loaded twice is unloaded once, none is left after `$clear`, and none can be loaded
-pub session : RunsTo (Some []) (kernel (codes "a") ∷ kernel (codes "b") ∷ kernel (codes "a") ∷ []) (codes "$unload a" ∷ codes " $clear\t" ∷ codes "$unload a" ∷ codes "$load  a b" ∷ [])
+pub session : RunsTo here (kernel (codes "a") ∷ kernel (codes "b") ∷ kernel (codes "a") ∷ []) (codes "$unload a" ∷ codes " $clear\t" ∷ codes "$unload a" ∷ codes "$load  a b" ∷ [])
     (Text (codes "unloaded") ∷ Text (codes "cleared") ∷ Refused NotLoaded ∷ Refused NoFile ∷ []) []
 session = (
   kernel (codes "a") ∷ kernel (codes "b") ∷ [],
-  (codes "$unload a", record { short = omega arith; trimmed = refl }, inl (inr (inl (codes "a", unload_names, refl, refl, refl)))),
+  inr (omega arith, inl (refl, inr (inl (codes "a", unload_names, record { answered = refl; left = refl })))),
   (
     [],
-    (codes "$clear", record { short = omega arith; trimmed = refl }, inl (inr (inr (refl, refl, refl)))),
+    inr (omega arith, inl (refl, inr (inr (inl (refl, refl, refl))))),
     (
       [],
-      ((codes "$unload a", record { short = omega arith; trimmed = refl }, (codes "a", unload_names, refl)), refl),
-      ([], ((codes "$load  a b", record { short = omega arith; trimmed = refl }, (codes "a b", load_names, refl)), refl), refl),
+      inr (omega arith, inl (refl, inr (inl (codes "a", unload_names, record { answered = refl; left = refl })))),
+      ([], inr (omega arith, inl (refl, inl (codes "a b", load_names, record { result = Err kernel_fault.NoFile; given = refl; answered = refl; left = refl }))), refl),
     ),
   ),
 )

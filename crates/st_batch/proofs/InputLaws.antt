@@ -2,38 +2,62 @@
 use Rattle.std.proofs.Common.{◌≡◌, ℕ, ◌+◌, ◌<◌, ◌≤◌, false, ◌||◌, cond, Option, Some, None, List, [], ◌∷◌, ◌++◌, length, take, refl, sym, ◌∙◌, ap, arith, subst, append-nil, length-append}
 use Rattle.std.specs.Io.KnownBytes.{Appends, Consumes, IsAtEnd, Keeps}
 use Rattle.std.specs.List.{flat_map, list_any}
-use Rattle.std.proofs.KnownBytes.{Consumes-kept, Consumes-nil, Consumes-trans}
-use Rattle.st_outside.specs.Entries.{Entries}
+use Rattle.std.proofs.KnownBytes.{Appends-nil, Consumes-kept, Consumes-nil, Consumes-trans}
+use Rattle.st_outside.specs.Causes.{AreLater, FileCounts}
+use Rattle.st_outside.specs.States.{FilesState, InputState, KeepsFiles}
 use Rattle.st_outside.specs.declared.faults.SinkFault.{SinkFault}
 use Rattle.st_outside.specs.declared.faults.SinkFault.TheVariants as fault
+use Rattle.st_outside.proofs.StateLaws.{AreLater-same}
 use Rattle.st_text.specs.Lines.{lines_of}
-use Rattle.st_pool.specs.declared.kernel.Kernel.{Kernel}
+use Rattle.st_batch.specs.declared.answer.Answer.{Answer}
 use Rattle.st_batch.specs.declared.input.TheConstants.{MAX_INPUT}
+use Rattle.st_batch.specs.declared.job.Job.{Job}
 use Rattle.st_batch.specs.declared.job.Work.{Work}
 use Rattle.st_batch.specs.declared.job.Work.TheVariants.{Time, Batch}
 use Rattle.st_batch.specs.declared.status.Status.{Status}
 use Rattle.st_batch.specs.declared.status.Status.TheVariants.{Done, SomeRefused, BadWords, BadSetup, ReadFault, WriteFault, OutOfMemory, InputTooLong}
-use Rattle.st_outside.specs.Causes.{FileCounts}
-use Rattle.st_batch.specs.Outcome.{Outside, line_of, is_refused, Took, IsLongInput}
-use Rattle.st_batch.specs.Progress.{Moment, Stops, Completes, Finishes, stopped_by, Cuts, EndsLines, Reads, Halts, ReadsInput, AllAnswered, SomeAnswered, LinesEnd}
+use Rattle.st_batch.specs.Causes.{AreCounted}
+use Rattle.st_batch.specs.LinesSteps.{Moment, setting_at, StopsAfter, Completes, Finishes, stopped_by, Cuts, EndsLines, ReadsText, StopsInText, ReadsInput}
+use Rattle.st_batch.specs.Outcome.{Outside, is_refused, Took, IsLongInput, IsReadWhole, AllAnswered, SomeAnswered, LinesOutcome}
+use Rattle.st_batch.specs.Session.{RunsTo}
+use Rattle.st_batch.specs.Setting.{Loaded, Setting, State}
+use Rattle.st_batch.specs.Texts.{line_of}
 use Rattle.st_batch.specs.Words.{AreLines, IsShortInput}
+use Rattle.st_batch.specs.WordsMachine.{work_of}
 use Rattle.st_batch.proofs.CutLaws.{cuts-none, ends-cut}
-use Rattle.st_batch.proofs.ProgressLaws.{advances-none, finishes-after, later-same}
+use Rattle.st_batch.proofs.LinesLaws.{advances-none, counted-none, counted-later, finishes-after}
 use Rattle.st_batch.proofs.ReadLaws.{reads-join, halts-none, halts-after}
 
 -- what stands around the answering from a moment on
-abbrev around : Option Entries → Option (List ℕ) → Option (List ℕ) → Moment → FileCounts → Outside
-around files input rest a now = record { files = files; input = input; left = rest; before = a.counts; now = now }
+abbrev pub around : FilesState → FilesState → InputState → InputState → Outside
+around before now i j = record { files = before; files_after = now; input = i; input_after = j }
+
+-- what a session's answering gives that ended so
+abbrev pub Gives : FilesState → FilesState → InputState → InputState → State → Status → List ℕ → Type 0
+Gives before now i j session status bytes = LinesOutcome (around before now i j) session.job session.loaded status bytes
+
+-- counts that rose from some moment on rose from an earlier one
+counted-from : (before mid now : FileCounts) (answers : List Answer) → AreLater before mid → AreCounted mid now answers → AreCounted before now answers
+counted-from before mid now answers l c = record { misses = omega (arith, c.misses, l.misses); faults = omega (arith, c.faults, l.faults); taken = omega (arith, c.taken, l.taken) }
+
+-- what was answered from a moment on was so over the files as they were before
+runs-before : (before : FilesState) (a : Moment) (lines : List (List ℕ)) (answers : List Answer) (after : Loaded) → KeepsFiles before a.files
+    → RunsTo (setting_at a) a.answering.session.loaded lines answers after
+    → RunsTo (record { files = before.map; job = a.answering.session.job }) a.answering.session.loaded lines answers after
+runs-before before a lines answers after k h =
+    let same : setting_at a ≡ record { files = before.map; job = a.answering.session.job } = λ i. record { files = k.map i; job = a.answering.session.job } in
+    subst (λ (s : Setting). RunsTo s a.answering.session.loaded lines answers after) same h
 
 -- the output took bytes that meet a condition
 told : (before now : Option (List ℕ)) (bytes : List ℕ) (P : List ℕ → Type 0) → Appends before now bytes → P bytes → Took before now P
 told before now bytes P p q = (bytes, p, q)
 
 -- from a moment at which nothing is gathered on some first lines were answered
-some-answered : (files : Option Entries) (input rest : Option (List ℕ)) (work : Work) (a : Moment) (now : FileCounts) (taken : Option (List ℕ)) (lines more : List (List ℕ))
-    (P : List ℕ → Type 0) → ((bytes : List ℕ) → SomeAnswered (around files input rest a now) work a.answering.session bytes → P bytes)
-    → a.answering.gathered.items ≡ [] → AreLines work input (lines ++ more) → Stops files a now taken lines → Took a.taken taken P
-some-answered files input rest work a now taken lines more P gives none are s =
+some-answered : (before now : FilesState) (i j : InputState) (a : Moment) (taken : Option (List ℕ)) (lines more : List (List ℕ))
+    (P : List ℕ → Type 0) → ((bytes : List ℕ) → SomeAnswered (around before now i j) a.answering.session.job a.answering.session.loaded bytes → P bytes)
+    → KeepsFiles before a.files → a.answering.gathered.items ≡ [] → AreLines a.answering.session.job.work a.answering.session.loaded i.left (lines ++ more)
+    → StopsAfter a now taken lines → Took a.taken taken P
+some-answered before now i j a taken lines more P gives k none are s =
     told a.taken taken s.written P s.appended (gives s.written (record {
       lines = lines;
       more = more;
@@ -41,91 +65,139 @@ some-answered files input rest work a now taken lines more P gives none are s =
       after = s.after;
       rest = s.rest;
       are_lines = are;
-      answered = s.answered;
-      counted = s.counted;
+      answered = runs-before before a lines s.answers s.after k s.answered;
+      counted = counted-from _ _ _ s.answers k.counts s.counted;
       written = ap (λ (l : List ℕ). l ++ flat_map line_of s.answers) (sym none) ∙ s.gathered;
     }))
 
 -- from such a moment on, at which no line is refused, all lines were answered
-all-answered : (files : Option Entries) (input rest : Option (List ℕ)) (work : Work) (a : Moment) (now : FileCounts) (taken : Option (List ℕ)) (lines : List (List ℕ)) (status : Status)
-    → a.answering.gathered.items ≡ [] → a.answering.refused ≡ false → AreLines work input lines → IsShortInput work input → Completes files a now taken lines status
-    → Took a.taken taken (λ bytes. AllAnswered (around files input rest a now) work a.answering.session status bytes)
-all-answered files input rest work a now taken lines status none fresh are short s =
-    told a.taken taken (flat_map line_of s.answers) _ (subst (λ (l : List ℕ). Appends a.taken taken (l ++ flat_map line_of s.answers)) none s.appended) (record {
+all-answered : (before now : FilesState) (i j : InputState) (a : Moment) (taken : Option (List ℕ)) (lines : List (List ℕ)) (status : Status)
+    → KeepsFiles before a.files → a.answering.gathered.items ≡ [] → a.answering.refused ≡ false
+    → AreLines a.answering.session.job.work a.answering.session.loaded i.left lines → IsReadWhole a.answering.session.job.work j.left → IsShortInput a.answering.session.job.work i.left
+    → Completes a now taken lines status
+    → (bytes : List ℕ) × Appends a.taken taken bytes × AllAnswered (around before now i j) a.answering.session.job a.answering.session.loaded status bytes
+all-answered before now i j a taken lines status k none fresh are whole short s =
+    (flat_map line_of s.answers, subst (λ (l : List ℕ). Appends a.taken taken (l ++ flat_map line_of s.answers)) none s.appended, record {
       lines = lines;
       answers = s.answers;
       after = s.after;
       are_lines = are;
+      whole = whole;
       short = short;
-      answered = s.answered;
-      counted = s.counted;
+      answered = runs-before before a lines s.answers s.after k s.answered;
+      counted = counted-from _ _ _ s.answers k.counts s.counted;
       ended = s.ended ∙ ap (λ t. cond (t || list_any is_refused s.answers) SomeRefused Done) fresh;
       written = refl;
     })
 
 -- lines that are at hand were answered, as far as the run came
-pub lines-end : (files : Option Entries) (input rest : Option (List ℕ)) (work : Work) (a : Moment) (now : FileCounts) (taken : Option (List ℕ)) (lines : List (List ℕ)) (status : Status)
-    → a.answering.gathered.items ≡ [] → a.answering.refused ≡ false → AreLines work input lines → IsShortInput work input → Finishes files a now taken lines status
-    → Took a.taken taken (λ bytes. LinesEnd (around files input rest a now) work a.answering.session status bytes)
-lines-end files input rest work a now taken lines Done none fresh are short s = all-answered files input rest work a now taken lines Done none fresh are short s
-lines-end files input rest work a now taken lines SomeRefused none fresh are short s = all-answered files input rest work a now taken lines SomeRefused none fresh are short s
-lines-end files input rest work a now taken lines WriteFault none fresh are short s =
-    some-answered files input rest work a now taken s.first s.more _ (λ bytes p. p) none (subst (λ (l : List (List ℕ)). AreLines work input l) s.among are) s.stopped
-lines-end files input rest work a now taken lines OutOfMemory none fresh are short s =
-    some-answered files input rest work a now taken s.first s.more _ (λ bytes p. p) none (subst (λ (l : List (List ℕ)). AreLines work input l) s.among are) s.stopped
-lines-end files input rest work a now taken lines (BadWords cause) none fresh are short s = absurd s
-lines-end files input rest work a now taken lines (BadSetup cause) none fresh are short s = absurd s
-lines-end files input rest work a now taken lines ReadFault none fresh are short s = absurd s
-lines-end files input rest work a now taken lines InputTooLong none fresh are short s = absurd s
+lines-end : (before now : FilesState) (i j : InputState) (a : Moment) (taken : Option (List ℕ)) (lines : List (List ℕ)) (status : Status)
+    → KeepsFiles before a.files → a.answering.gathered.items ≡ [] → a.answering.refused ≡ false
+    → AreLines a.answering.session.job.work a.answering.session.loaded i.left lines → IsReadWhole a.answering.session.job.work j.left → IsShortInput a.answering.session.job.work i.left
+    → Finishes a now taken lines status → Took a.taken taken (Gives before now i j a.answering.session status)
+lines-end before now i j a taken lines Done k none fresh are whole short s = all-answered before now i j a taken lines Done k none fresh are whole short s
+lines-end before now i j a taken lines SomeRefused k none fresh are whole short s = all-answered before now i j a taken lines SomeRefused k none fresh are whole short s
+lines-end before now i j a taken lines WriteFault k none fresh are whole short s =
+    some-answered before now i j a taken s.first s.more _ (λ bytes p. p) k none
+    (subst (λ (l : List (List ℕ)). AreLines a.answering.session.job.work a.answering.session.loaded i.left l) s.among are) s.stopped
+lines-end before now i j a taken lines OutOfMemory k none fresh are whole short s =
+    some-answered before now i j a taken s.first s.more _ (λ bytes p. p) k none
+    (subst (λ (l : List (List ℕ)). AreLines a.answering.session.job.work a.answering.session.loaded i.left l) s.among are) s.stopped
+lines-end before now i j a taken lines (BadWords cause) k none fresh are whole short s = absurd s
+lines-end before now i j a taken lines (BadSetup cause) k none fresh are whole short s = absurd s
+lines-end before now i j a taken lines ReadFault k none fresh are whole short s = absurd s
+lines-end before now i j a taken lines InputTooLong k none fresh are whole short s = absurd s
 
 -- the one line of the words was answered
-pub time-ends : (files : Option Entries) (input rest : Option (List ℕ)) (text line : List ℕ) (work : Work) (loaded : List Kernel) (a : Moment) (now : FileCounts) (taken : Option (List ℕ)) (status : Status)
-    → a.answering.session ≡ loaded → a.answering.gathered.items ≡ [] → a.answering.refused ≡ false → work ≡ Time text → line ≡ text → Finishes files a now taken (line ∷ []) status
-    → Took a.taken taken (λ bytes. LinesEnd (around files input rest a now) work loaded status bytes)
-time-ends files input rest text line work loaded a now taken status session none fresh e f s =
-    let ended = lines-end files input rest (Time text) a now taken (text ∷ []) status none fresh refl tt (subst (λ (l : List ℕ). Finishes files a now taken (l ∷ []) status) f s) in
-    subst (λ (w : Work). Took a.taken taken (λ bytes. LinesEnd (around files input rest a now) w loaded status bytes)) (sym e)
-    (subst (λ (l : List Kernel). Took a.taken taken (λ bytes. LinesEnd (around files input rest a now) (Time text) l status bytes)) session ended)
+pub time-ends : (before now : FilesState) (i : InputState) (text line : List ℕ) (session : State) (a : Moment) (taken : Option (List ℕ)) (status : Status)
+    → a.answering.session ≡ session → a.answering.gathered.items ≡ [] → a.answering.refused ≡ false → session.job.work ≡ Time text → line ≡ text
+    → Finishes a now taken (line ∷ []) status → KeepsFiles before a.files → Took a.taken taken (Gives before now i i session status)
+time-ends before now i text line session a taken status same none fresh e f s k =
+    let work : a.answering.session.job.work ≡ Time text = ap (λ (t : State). t.job.work) same ∙ e in
+    let Lines : Work → Type 0 = λ w. AreLines w a.answering.session.loaded i.left (text ∷ []) in
+    let Whole : Work → Type 0 = λ w. IsReadWhole w i.left in
+    let Short : Work → Type 0 = λ w. IsShortInput w i.left in
+    subst (λ (t : State). Took a.taken taken (Gives before now i i t status)) same
+    (lines-end before now i i a taken (text ∷ []) status k none fresh (subst Lines (sym work) refl) (subst Whole (sym work) tt) (subst Short (sym work) tt)
+    (subst (λ (l : List ℕ). Finishes a now taken (l ∷ []) status) f s))
+
+-- what the words give is the job's line
+pub given-work : (session : State) (job : Job) (line : Option (List ℕ)) (text : List ℕ) → job ≡ session.job → job.work ≡ work_of line → line ≡ Some text → session.job.work ≡ Time text
+given-work session job line text same given is = sym (ap (λ (j : Job). j.work) same) ∙ given ∙ ap work_of is
+
+-- the same session's answering
+pub session-told : (before now : FilesState) (i j : InputState) (taken after : Option (List ℕ)) (a session : State) (status : Status) → a ≡ session
+    → Took taken after (Gives before now i j a status) → Took taken after (Gives before now i j session status)
+session-told before now i j taken after a session status same h = subst (λ (t : State). Took taken after (Gives before now i j t status)) same h
+
+some-lines : (work : Work) (loaded : Loaded) (input : Option (List ℕ)) → (lines : List (List ℕ)) × AreLines work loaded input lines
+some-lines (Time text) loaded input = (text ∷ [], refl)
+some-lines Batch loaded None = ([], tt)
+some-lines Batch loaded (Some bytes) = (lines_of bytes, refl)
+
+-- memory ran out before the first line was answered
+pub none-answered : (before now : FilesState) (i : InputState) (session : State) (taken : Option (List ℕ)) → KeepsFiles before now
+    → Took taken taken (Gives before now i i session OutOfMemory)
+none-answered before now i session taken k =
+    let lines = some-lines session.job.work session.loaded i.left in
+    ([], Appends-nil taken, record {
+      lines = [];
+      more = lines.0;
+      answers = [];
+      after = session.loaded;
+      rest = [];
+      are_lines = lines.1;
+      answered = refl;
+      counted = counted-later _ _ _ [] (counted-none before.counts) k.counts;
+      written = refl;
+    })
 
 -- nothing of the input was read
-pub input-none : (files : Option Entries) (input : Option (List ℕ)) (a : Moment) (begun : List ℕ) → begun ≡ [] → ReadsInput files input input a a begun 0
-input-none files input a begun none = record {
+pub input-none : (input : Option (List ℕ)) (a : Moment) (begun : List ℕ) → begun ≡ [] → ReadsInput input input a a begun 0
+input-none input a begun none = record {
   text = [];
   consumed = Consumes-nil input;
   long = refl;
-  read = subst (λ (l : List ℕ). Reads files a a [] [] l) (sym none) (record { lines = []; cuts = cuts-none []; advanced = advances-none files a; no_feed = refl });
+  read = subst (λ (l : List ℕ). ReadsText a a [] [] l) (sym none) (record { lines = []; cuts = cuts-none []; advanced = advances-none a; no_feed = refl });
 }
 
 -- one more piece of the input was read and answered
-pub input-next : (files same : Option Entries) (input left next : Option (List ℕ)) (a b c : Moment) (y z piece : List ℕ) (n m : ℕ)
-    → same ≡ files → m ≡ n + length piece → ReadsInput files input left a b y n → Consumes left next piece → Reads same b c y piece z → ReadsInput files input next a c z m
-input-next files same input left next a b c y z piece n m e long p eats q = record {
+pub input-next : (input left next : Option (List ℕ)) (a b c : Moment) (y z piece : List ℕ) (n m : ℕ)
+    → m ≡ n + length piece → ReadsInput input left a b y n → Consumes left next piece → ReadsText b c y piece z → ReadsInput input next a c z m
+input-next input left next a b c y z piece n m long p eats q = record {
   text = p.text ++ piece;
   consumed = Consumes-trans input left next p.text piece p.consumed eats;
   long = omega (arith, length-append p.text piece, p.long, long);
-  read = reads-join files a b c [] y z p.text piece p.read (subst (λ (f : Option Entries). Reads f b c y piece z) e q);
+  read = reads-join a b c [] y z p.text piece p.read q;
 }
 
 -- the lines of a told input begin with those that a beginning of it ends
-lines-begin : (input left : Option (List ℕ)) (text : List ℕ) (lines : List (List ℕ)) → Consumes input left text → EndsLines [] text lines
-    → (more : List (List ℕ)) × AreLines Batch input (lines ++ more)
-lines-begin None left text lines p ends = ([], tt)
-lines-begin (Some xs) None text lines p ends = absurd p
-lines-begin (Some xs) (Some ys) text lines p ends = ((ends ys).0, sym (ap lines_of p ∙ (ends ys).1))
+lines-begin : (work : Work) (loaded : Loaded) (input left : Option (List ℕ)) (text : List ℕ) (lines : List (List ℕ)) → work ≡ Batch → Consumes input left text → EndsLines [] text lines
+    → (more : List (List ℕ)) × AreLines work loaded input (lines ++ more)
+lines-begin (Time line) loaded input left text lines e p ends = absurd cc
+lines-begin Batch loaded None left text lines e p ends = ([], tt)
+lines-begin Batch loaded (Some xs) None text lines e p ends = absurd p
+lines-begin Batch loaded (Some xs) (Some ys) text lines e p ends = ((ends ys).0, sym (ap lines_of p ∙ (ends ys).1))
 
 -- the lines of a told input that was read to its end
-lines-whole : (input left : Option (List ℕ)) (text begun : List ℕ) (lines : List (List ℕ)) → Consumes input left text → IsAtEnd left → Cuts [] text lines begun
-    → AreLines Batch input (lines ++ lines_of begun)
-lines-whole None left text begun lines p end cuts = tt
-lines-whole (Some xs) None text begun lines p end cuts = absurd p
-lines-whole (Some xs) (Some ys) text begun lines p end cuts =
+lines-whole : (work : Work) (loaded : Loaded) (input left : Option (List ℕ)) (text begun : List ℕ) (lines : List (List ℕ)) → work ≡ Batch → Consumes input left text → IsAtEnd left
+    → Cuts [] text lines begun → AreLines work loaded input (lines ++ lines_of begun)
+lines-whole (Time line) loaded input left text begun lines e p end cuts = absurd cc
+lines-whole Batch loaded None left text begun lines e p end cuts = tt
+lines-whole Batch loaded (Some xs) None text begun lines e p end cuts = absurd p
+lines-whole Batch loaded (Some xs) (Some ys) text begun lines e p end cuts =
     sym (ap lines_of (p ∙ ap (λ (l : List ℕ). text ++ l) end) ∙ cuts [] ∙ ap (λ (l : List ℕ). lines ++ lines_of l) (append-nil begun))
 
 -- a told input that was read to its end has as many bytes as were read
-short-input : (input left : Option (List ℕ)) (text : List ℕ) → Consumes input left text → IsAtEnd left → length text ≤ MAX_INPUT → IsShortInput Batch input
-short-input None left text p end few = tt
-short-input (Some xs) None text p end few = absurd p
-short-input (Some xs) (Some ys) text p end few = omega (arith, ap length (p ∙ ap (λ (l : List ℕ). text ++ l) end ∙ append-nil text))
+short-input : (work : Work) (input left : Option (List ℕ)) (text : List ℕ) → Consumes input left text → IsAtEnd left → length text ≤ MAX_INPUT → IsShortInput work input
+short-input (Time line) input left text p end few = tt
+short-input Batch None left text p end few = tt
+short-input Batch (Some xs) None text p end few = absurd p
+short-input Batch (Some xs) (Some ys) text p end few = omega (arith, ap length (p ∙ ap (λ (l : List ℕ). text ++ l) end ∙ append-nil text))
+
+whole-input : (work : Work) (left : Option (List ℕ)) → IsAtEnd left → IsReadWhole work left
+whole-input (Time line) left end = tt
+whole-input Batch left end = end
 
 -- a told input has at least as many bytes as were read
 long-input : (input left : Option (List ℕ)) (text : List ℕ) → Consumes input left text → MAX_INPUT < length text → IsLongInput input
@@ -134,72 +206,74 @@ long-input (Some xs) None text p many = absurd p
 long-input (Some xs) (Some ys) text p many = omega (arith, ap length p, length-append text ys)
 
 -- the answering of what was read stopped
-input-halts : (files : Option Entries) (input rest left : Option (List ℕ)) (a : Moment) (now : FileCounts) (taken : Option (List ℕ)) (text : List ℕ)
-    (P : List ℕ → Type 0) → ((bytes : List ℕ) → SomeAnswered (around files input rest a now) Batch a.answering.session bytes → P bytes)
-    → a.answering.gathered.items ≡ [] → Consumes input left text → Halts files a now taken [] text → Took a.taken taken P
-input-halts files input rest left a now taken text P gives none eats h =
-    let more = lines-begin input left text h.lines eats h.ends in
-    some-answered files input rest Batch a now taken h.lines more.0 P gives none more.1 h.stopped
+input-halts : (before now : FilesState) (i j : InputState) (left : Option (List ℕ)) (a : Moment) (taken : Option (List ℕ)) (text : List ℕ)
+    (P : List ℕ → Type 0) → ((bytes : List ℕ) → SomeAnswered (around before now i j) a.answering.session.job a.answering.session.loaded bytes → P bytes)
+    → KeepsFiles before a.files → a.answering.session.job.work ≡ Batch → a.answering.gathered.items ≡ [] → Consumes i.left left text → StopsInText a now taken [] text → Took a.taken taken P
+input-halts before now i j left a taken text P gives k batch none eats h =
+    let more = lines-begin a.answering.session.job.work a.answering.session.loaded i.left left text h.lines batch eats h.ends in
+    some-answered before now i j a taken h.lines more.0 P gives k none more.1 h.stopped
 
 -- what was read was answered, and then nothing more
-input-here : (files : Option Entries) (input rest left : Option (List ℕ)) (a b : Moment) (y : List ℕ) (n : ℕ)
-    (P : List ℕ → Type 0) → ((bytes : List ℕ) → SomeAnswered (around files input rest a b.counts) Batch a.answering.session bytes → P bytes)
-    → a.answering.gathered.items ≡ [] → ReadsInput files input left a b y n → Took a.taken b.taken P
-input-here files input rest left a b y n P gives none p =
-    input-halts files input rest left a b.counts b.taken (p.text ++ []) P gives none (subst (λ (l : List ℕ). Consumes input left l) (sym (append-nil p.text)) p.consumed)
-    (halts-after files a b b.counts b.taken [] y p.text [] p.read (halts-none files b b.counts y [] (later-same b.counts)))
+input-here : (before : FilesState) (i j : InputState) (left : Option (List ℕ)) (a b : Moment) (y : List ℕ) (n : ℕ)
+    (P : List ℕ → Type 0) → ((bytes : List ℕ) → SomeAnswered (around before b.files i j) a.answering.session.job a.answering.session.loaded bytes → P bytes)
+    → KeepsFiles before a.files → a.answering.session.job.work ≡ Batch → a.answering.gathered.items ≡ [] → ReadsInput i.left left a b y n → Took a.taken b.taken P
+input-here before i j left a b y n P gives k batch none p =
+    input-halts before b.files i j left a b.taken (p.text ++ []) P gives k batch none (subst (λ (l : List ℕ). Consumes i.left left l) (sym (append-nil p.text)) p.consumed)
+    (halts-after a b b.files b.taken [] y p.text [] p.read (halts-none b b.files y [] (AreLater-same b.files.counts)))
 
 -- a read failed when nothing was gathered
-pub input-fault : (files : Option Entries) (input rest left : Option (List ℕ)) (a b : Moment) (y : List ℕ) (n : ℕ)
-    → a.answering.gathered.items ≡ [] → b.answering.gathered.items ≡ [] → ReadsInput files input left a b y n → Keeps left rest
-    → Took a.taken b.taken (λ bytes. LinesEnd (around files input rest a b.counts) Batch a.answering.session ReadFault bytes)
-input-fault files input rest left a b y n none all p same =
+pub input-fault : (before : FilesState) (i j : InputState) (left : Option (List ℕ)) (a b : Moment) (y : List ℕ) (n : ℕ)
+    → a.answering.session.job.work ≡ Batch → a.answering.gathered.items ≡ [] → b.answering.gathered.items ≡ [] → ReadsInput i.left left a b y n → Keeps left j.left → KeepsFiles before a.files
+    → Took a.taken b.taken (Gives before b.files i j a.answering.session ReadFault)
+input-fault before i j left a b y n batch none all p same k =
     let s = p.read.advanced in
-    let more = lines-begin input left p.text p.read.lines p.consumed (ends-cut [] y p.text p.read.lines p.read.cuts) in
+    let more = lines-begin a.answering.session.job.work a.answering.session.loaded i.left left p.text p.read.lines batch p.consumed (ends-cut [] y p.text p.read.lines p.read.cuts) in
     told a.taken b.taken s.written _ s.appended (record {
       lines = p.read.lines;
       more = more.0;
       answers = s.answers;
-      after = b.answering.session;
+      after = b.answering.session.loaded;
       are_lines = more.1;
-      ended = record { read = p.text; begun = y; consumed = Consumes-kept input left rest p.text p.consumed same; unended = p.read.no_feed; first = p.read.cuts };
-      answered = s.answered;
-      counted = s.counted;
+      ended = record { read = p.text; begun = y; consumed = Consumes-kept i.left left j.left p.text p.consumed same; unended = p.read.no_feed; first = p.read.cuts };
+      answered = runs-before before a p.read.lines s.answers b.answering.session.loaded k s.answered;
+      counted = counted-from _ _ _ s.answers k.counts s.counted;
       written = sym (append-nil s.written) ∙ ap (λ (l : List ℕ). s.written ++ l) (sym all) ∙ sym s.gathered ∙ ap (λ (l : List ℕ). l ++ flat_map line_of s.answers) none;
     })
 
 -- the input was too long
-pub input-long : (files : Option Entries) (input rest left next : Option (List ℕ)) (a b : Moment) (y piece : List ℕ) (n : ℕ)
-    → a.answering.gathered.items ≡ [] → MAX_INPUT < n + length piece → ReadsInput files input left a b y n → Consumes left next piece
-    → Took a.taken b.taken (λ bytes. LinesEnd (around files input rest a b.counts) Batch a.answering.session InputTooLong bytes)
-input-long files input rest left next a b y piece n none many p eats =
-    let long = long-input input next (p.text ++ piece) (Consumes-trans input left next p.text piece p.consumed eats) (omega (arith, length-append p.text piece, p.long)) in
-    input-here files input rest left a b y n _ (λ bytes s. (s, long)) none p
+pub input-long : (before : FilesState) (i j : InputState) (left : Option (List ℕ)) (a b : Moment) (y piece : List ℕ) (n : ℕ)
+    → a.answering.session.job.work ≡ Batch → a.answering.gathered.items ≡ [] → MAX_INPUT < n + length piece → ReadsInput i.left left a b y n → Consumes left j.left piece → KeepsFiles before a.files
+    → Took a.taken b.taken (Gives before b.files i j a.answering.session InputTooLong)
+input-long before i j left a b y piece n batch none many p eats k =
+    let long = long-input i.left j.left (p.text ++ piece) (Consumes-trans i.left left j.left p.text piece p.consumed eats) (omega (arith, length-append p.text piece, p.long)) in
+    input-here before i j left a b y n _ (λ bytes s. (s, long)) k batch none p
 
-stopped-end : (o : Outside) (loaded : List Kernel) (cause : SinkFault) (bytes : List ℕ) → SomeAnswered o Batch loaded bytes → LinesEnd o Batch loaded (stopped_by cause) bytes
-stopped-end o loaded fault.Failed bytes s = s
-stopped-end o loaded fault.OutOfMemory bytes s = s
+stopped-end : (before now : FilesState) (i j : InputState) (session : State) (cause : SinkFault) (bytes : List ℕ)
+    → SomeAnswered (around before now i j) session.job session.loaded bytes → Gives before now i j session (stopped_by cause) bytes
+stopped-end before now i j session fault.Failed bytes s = s
+stopped-end before now i j session fault.OutOfMemory bytes s = s
 
 -- the answering of a piece stopped
-pub input-stopped : (files same : Option Entries) (input rest left next : Option (List ℕ)) (a b : Moment) (now : FileCounts) (taken : Option (List ℕ)) (y piece : List ℕ) (n : ℕ) (cause : SinkFault) (status : Status)
-    → a.answering.gathered.items ≡ [] → same ≡ files → status ≡ stopped_by cause → ReadsInput files input left a b y n → Consumes left next piece → Halts same b now taken y piece
-    → Took a.taken taken (λ bytes. LinesEnd (around files input rest a now) Batch a.answering.session status bytes)
-input-stopped files same input rest left next a b now taken y piece n cause status none e f p eats h =
-    subst (λ (s : Status). Took a.taken taken (λ bytes. LinesEnd (around files input rest a now) Batch a.answering.session s bytes)) (sym f)
-    (input-halts files input rest next a now taken (p.text ++ piece) _ (stopped-end (around files input rest a now) a.answering.session cause) none
-    (Consumes-trans input left next p.text piece p.consumed eats)
-    (halts-after files a b now taken [] y p.text piece p.read (subst (λ (m : Option Entries). Halts m b now taken y piece) e h)))
+pub input-stopped : (before now : FilesState) (i j : InputState) (left : Option (List ℕ)) (a b : Moment) (taken : Option (List ℕ)) (y piece : List ℕ) (n : ℕ) (cause : SinkFault) (status : Status)
+    → a.answering.session.job.work ≡ Batch → a.answering.gathered.items ≡ [] → status ≡ stopped_by cause → ReadsInput i.left left a b y n → Consumes left j.left piece
+    → StopsInText b now taken y piece → KeepsFiles before a.files → Took a.taken taken (Gives before now i j a.answering.session status)
+input-stopped before now i j left a b taken y piece n cause status batch none f p eats h k =
+    subst (λ (s : Status). Took a.taken taken (Gives before now i j a.answering.session s)) (sym f)
+    (input-halts before now i j j.left a taken (p.text ++ piece) _ (stopped-end before now i j a.answering.session cause) k batch none
+    (Consumes-trans i.left left j.left p.text piece p.consumed eats)
+    (halts-after a b now taken [] y p.text piece p.read h))
 
 -- the input was read to its end
-pub input-ends : (files same : Option Entries) (input rest left next : Option (List ℕ)) (a b : Moment) (now : FileCounts) (taken : Option (List ℕ)) (y begun piece : List ℕ) (n count : ℕ) (status : Status)
-    → a.answering.gathered.items ≡ [] → a.answering.refused ≡ false → same ≡ files → begun ≡ y → count ≡ 0 → n ≤ MAX_INPUT
-    → ReadsInput files input left a b y n → Consumes left next (take count piece) → IsAtEnd next → Finishes same b now taken (lines_of begun) status
-    → Took a.taken taken (λ bytes. LinesEnd (around files input rest a now) Batch a.answering.session status bytes)
-input-ends files same input rest left next a b now taken y begun piece n count status none fresh e f zero few p eats end s =
-    let last : Consumes left next [] = subst (λ (k : ℕ). Consumes left next (take k piece)) zero eats in
-    let all : Consumes input next p.text = subst (λ (l : List ℕ). Consumes input next l) (append-nil p.text) (Consumes-trans input left next p.text [] p.consumed last) in
-    let behind = subst (λ (l : List ℕ). Finishes files b now taken (lines_of l) status) f (subst (λ (m : Option Entries). Finishes m b now taken (lines_of begun) status) e s) in
-    lines-end files input rest Batch a now taken (p.read.lines ++ lines_of y) status none fresh
-    (lines-whole input next p.text y p.read.lines all end p.read.cuts)
-    (short-input input next p.text all end (omega (arith, p.long)))
-    (finishes-after files a b now taken p.read.lines (lines_of y) status p.read.advanced behind)
+pub input-ends : (before now : FilesState) (i j : InputState) (left : Option (List ℕ)) (a b : Moment) (taken : Option (List ℕ)) (y begun piece : List ℕ) (n count : ℕ) (status : Status)
+    → a.answering.session.job.work ≡ Batch → a.answering.gathered.items ≡ [] → a.answering.refused ≡ false → begun ≡ y → count ≡ 0 → n ≤ MAX_INPUT
+    → ReadsInput i.left left a b y n → Consumes left j.left (take count piece) → IsAtEnd j.left → Finishes b now taken (lines_of begun) status → KeepsFiles before a.files
+    → Took a.taken taken (Gives before now i j a.answering.session status)
+input-ends before now i j left a b taken y begun piece n count status batch none fresh f zero few p eats end s k =
+    let last : Consumes left j.left [] = subst (λ (k : ℕ). Consumes left j.left (take k piece)) zero eats in
+    let all : Consumes i.left j.left p.text = subst (λ (l : List ℕ). Consumes i.left j.left l) (append-nil p.text) (Consumes-trans i.left left j.left p.text [] p.consumed last) in
+    let behind = subst (λ (l : List ℕ). Finishes b now taken (lines_of l) status) f s in
+    lines-end before now i j a taken (p.read.lines ++ lines_of y) status k none fresh
+    (lines-whole a.answering.session.job.work a.answering.session.loaded i.left j.left p.text y p.read.lines batch all end p.read.cuts)
+    (whole-input a.answering.session.job.work j.left end)
+    (short-input a.answering.session.job.work i.left j.left p.text all end (omega (arith, p.long)))
+    (finishes-after a b now taken p.read.lines (lines_of y) status p.read.advanced behind)

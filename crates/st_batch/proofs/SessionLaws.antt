@@ -1,91 +1,100 @@
--- The session: the answer of a line from the answer of its text.
-use Rattle.std.proofs.Common.{◌≡◌, ◌≢◌, ℕ, ◌≤◌, inl, inr, Option, Result, Ok, Err, IfOk, List, length, refl, subst}
+-- The commands, and the answer of a line from that of its text.
+use Rattle.std.proofs.Common.{◌≡◌, ◌≢◌, ℕ, ◌≤◌, ◌⊎◌, inl, inr, Bool, true, false, Option, Result, Ok, Err, IfOk, List, [], length, codes, refl, sym, ap, ◌∙◌, subst}
+use Rattle.std.proofs.lemmas.Bool.{cases_Bool, false≢true}
+use Rattle.std.proofs.lemmas.Slice.Eq.{bytes_eq-Decides}
+use Rattle.std.specs.Str.{bytes_eq}
 use Rattle.st_outside.specs.Entries.{Entries}
-use Rattle.st_pool.specs.declared.kernel.Kernel.{Kernel}
+use Rattle.st_pool.specs.Loaded.{is_loaded, without_last}
 use Rattle.st_text.specs.Lines.{trimmed}
 use Rattle.st_batch.specs.declared.answer.Answer.{Answer}
 use Rattle.st_batch.specs.declared.answer.Answer.TheVariants.{Text, Refused}
-use Rattle.st_batch.specs.declared.fault.LineFault.TheVariants.{BadCommand, LineTooLong, NoFile, FileFault, FileTooLong, KernelText, TooManyKernels, TooManyValues, NotLoaded, NotBuilt, BadTime, OutOfMemory}
-use Rattle.st_batch.specs.declared.session.TheConstants.{MAX_LINE}
 use Rattle.st_outside.specs.Causes.{FileCounts}
-use Rattle.st_batch.specs.Causes.{IsAnswerCaused}
-use Rattle.st_batch.specs.Line.{TimeGives}
-use Rattle.st_batch.specs.Session.{IsLine, MayAnswer}
-use Rattle.st_batch.specs.SessionMachine.{CommandAnswers, TimeLineGives}
+use Rattle.st_batch.specs.declared.fault.KernelFault.{KernelFault}
+use Rattle.st_batch.specs.declared.fault.KernelFault.TheVariants as kernel
+use Rattle.st_batch.specs.Causes.{IsAnswerCaused, IsCaused}
+use Rattle.st_batch.specs.declared.fault.LineFault.{LineFault}
+use Rattle.st_batch.specs.declared.fault.LineFault.TheVariants.{BadCommand, LineTooLong, FileFault, NotLoaded, OutOfMemory}
+use Rattle.st_batch.specs.declared.job.Job.{Job}
+use Rattle.st_batch.specs.declared.job.Work.TheVariants.{Batch}
+use Rattle.st_batch.specs.declared.session.TheConstants.{MAX_LINE}
+use Rattle.st_batch.specs.Commands.{CommandGives, IsLoad, IsUnload, LoadAnswers, UnloadAnswers, begins_command, load_answer, unload_answer}
+use Rattle.st_batch.specs.Load.{LoadGives, line_fault}
+use Rattle.st_batch.specs.Session.{MayAnswer, TextGives}
+use Rattle.st_batch.specs.Setting.{Loaded, Setting}
+use Rattle.st_batch.specs.Times.{TimeGives}
+use Rattle.st_batch.proofs.SetupLaws.{given-line}
+use Rattle.st_batch.proofs.TimesLaws as times
 
--- an answer that has its cause isn't want of memory
-pub not-memory : (answer : Answer) (before now : FileCounts) → IsAnswerCaused answer before now → answer ≢ Refused OutOfMemory
-not-memory answer before now caused e =
+-- a loading that was refused is answered so, and leaves the loaded list
+pub load-refused : {E : Type 0} (files : Option Entries) (loaded after : Loaded) (name : List ℕ) (fault : KernelFault) (r : Result Answer E)
+    → IfOk r (λ answer. (fault ≢ kernel.OutOfMemory) × (answer ≡ Refused (line_fault fault))) → (fault ≢ kernel.OutOfMemory → LoadGives files loaded name (Err fault)) → after ≡ loaded
+    → IfOk r (λ answer. LoadAnswers files loaded name answer after)
+load-refused files loaded after name fault (Ok answer) (not, said) given left = record { result = Err fault; given = given not; answered = said; left = left }
+load-refused files loaded after name fault (Err error) named given left = tt
+
+pub refused-caused : {E : Type 0} (fault : KernelFault) (before now : FileCounts) (r : Result Answer E)
+    → IfOk r (λ answer. (fault ≢ kernel.OutOfMemory) × (answer ≡ Refused (line_fault fault))) → IsCaused (line_fault fault) before now → IfOk r (λ answer. IsAnswerCaused answer before now)
+refused-caused fault before now (Ok answer) (not, said) caused =
     let P : Answer → Type 0 = λ a. IsAnswerCaused a before now in
-    subst P e caused
+    subst P (sym said) caused
+refused-caused fault before now (Err error) named caused = tt
 
--- the answer of a command's text is the answer of its line
-command-answered : (files : Option Entries) (loaded after : List Kernel) (line text : List ℕ) (answer : Answer) → IsLine line text
-    → CommandAnswers files loaded text answer after → MayAnswer files loaded line answer after
-command-answered files loaded after line text (Text said) is_line carried = (text, is_line, inl carried)
-command-answered files loaded after line text (Refused BadCommand) is_line (may, same) = ((text, is_line, may), same)
-command-answered files loaded after line text (Refused LineTooLong) is_line ((name, load, never), same) = absurd never
-command-answered files loaded after line text (Refused NoFile) is_line (may, same) = ((text, is_line, may), same)
-command-answered files loaded after line text (Refused FileFault) is_line (may, same) = ((text, is_line, may), same)
-command-answered files loaded after line text (Refused FileTooLong) is_line (may, same) = ((text, is_line, may), same)
-command-answered files loaded after line text (Refused (KernelText n cause)) is_line (may, same) = ((text, is_line, may), same)
-command-answered files loaded after line text (Refused TooManyKernels) is_line (may, same) = ((text, is_line, may), same)
-command-answered files loaded after line text (Refused TooManyValues) is_line (may, same) = ((text, is_line, may), same)
-command-answered files loaded after line text (Refused NotLoaded) is_line (may, same) = ((text, is_line, may), same)
-command-answered files loaded after line text (Refused NotBuilt) is_line (may, same) = ((text, is_line, may), same)
-command-answered files loaded after line text (Refused BadTime) is_line (may, same) = ((text, is_line, may), same)
-command-answered files loaded after line text (Refused OutOfMemory) is_line (may, same) = ((text, is_line, may), same)
+-- the answer of a text is that of its line
+pub text-line : {E : Type 0} (s : Setting) (loaded after : Loaded) (line text : List ℕ) (r : Result Answer E) → length line ≤ MAX_LINE → text ≡ trimmed line
+    → IfOk r (λ answer. TextGives s loaded text answer after) → IfOk r (λ answer. MayAnswer s loaded line answer after)
+text-line s loaded after line text (Ok answer) short same given =
+    let P : List ℕ → Type 0 = λ t. TextGives s loaded t answer after in
+    inr (short, subst P same given)
+text-line s loaded after line text (Err error) short same given = tt
 
--- the same of a result
-pub command-line : {E : Type 0} (files : Option Entries) (loaded after : List Kernel) (line text : List ℕ) (r : Result Answer E) → IsLine line text
-    → IfOk r (λ answer. CommandAnswers files loaded text answer after) → IfOk r (λ answer. MayAnswer files loaded line answer after)
-command-line files loaded after line text (Ok answer) is_line answered = command-answered files loaded after line text answer is_line answered
-command-line files loaded after line text (Err error) is_line answered = tt
+-- the answer of a time is that of its text
+pub time-text : {E : Type 0} (files : Option Entries) (job : Job) (loaded : Loaded) (text : List ℕ) (r : Result Answer E) → begins_command text ≡ false
+    → IfOk r (TimeGives job loaded text) → IfOk r (λ answer. TextGives (record { files = files; job = job }) loaded text answer loaded)
+time-text files job loaded text (Ok answer) time given = inr (time, given, refl)
+time-text files job loaded text (Err error) time given = tt
 
--- the answer of a time's text is the answer of its line
-time-given : (loaded : List Kernel) (line : List ℕ) (answer : Answer) → length line ≤ MAX_LINE → TimeGives loaded (trimmed line) answer
-    → TimeLineGives loaded line answer
-time-given loaded line (Text said) short gives = (short, gives)
-time-given loaded line (Refused BadCommand) short gives = absurd gives
-time-given loaded line (Refused LineTooLong) short gives = absurd gives
-time-given loaded line (Refused NoFile) short gives = absurd gives
-time-given loaded line (Refused FileFault) short gives = absurd gives
-time-given loaded line (Refused FileTooLong) short gives = absurd gives
-time-given loaded line (Refused (KernelText n cause)) short gives = absurd gives
-time-given loaded line (Refused TooManyKernels) short gives = absurd gives
-time-given loaded line (Refused TooManyValues) short gives = absurd gives
-time-given loaded line (Refused NotLoaded) short gives = absurd gives
-time-given loaded line (Refused NotBuilt) short gives = (short, gives)
-time-given loaded line (Refused BadTime) short gives = (short, gives)
-time-given loaded line (Refused OutOfMemory) short gives = absurd gives
+-- and wants no cause
+no-cause : (job : Job) (loaded : Loaded) (text : List ℕ) (answer : Answer) (before now : FileCounts) → TimeGives job loaded text answer → IsAnswerCaused answer before now
+no-cause job loaded text answer before now (inl h) = subst (λ (a : Answer). IsAnswerCaused a before now) (sym h.answered) tt
+no-cause job loaded text answer before now (inr (inl h)) = subst (λ (a : Answer). IsAnswerCaused a before now) (sym h.answered) tt
+no-cause job loaded text answer before now (inr (inr h)) = subst (λ (a : Answer). IsAnswerCaused a before now) (sym h.answered) tt
 
--- the same of a result
-pub time-line : {E : Type 0} (loaded : List Kernel) (line text : List ℕ) (r : Result Answer E) → length line ≤ MAX_LINE → text ≡ trimmed line
-    → IfOk r (TimeGives loaded text) → IfOk r (TimeLineGives loaded line)
-time-line loaded line text (Ok answer) short is_trimmed gives =
-    let P : List ℕ → Type 0 = λ t. TimeGives loaded t answer in
-    time-given loaded line answer short (subst P is_trimmed gives)
-time-line loaded line text (Err error) short is_trimmed gives = tt
+pub time-caused : {E : Type 0} (loaded : Loaded) (text : List ℕ) (before now : FileCounts) (r : Result Answer E) → ((job : Job) → IfOk r (TimeGives job loaded text))
+    → IfOk r (λ answer. IsAnswerCaused answer before now)
+time-caused loaded text before now (Ok answer) given = no-cause any loaded text answer before now (given any)
+  where
+    any : Job
+    any = record { setup = []; work = Batch }
+time-caused loaded text before now (Err error) given = tt
 
--- the answer of a line that is no command is one that its line may be given
-time-answered : (files : Option Entries) (loaded : List Kernel) (line : List ℕ) (answer : Answer) → TimeLineGives loaded line answer
-    → MayAnswer files loaded line answer loaded
-time-answered files loaded line (Text said) (short, converts) = (trimmed line, record { short = short; trimmed = refl }, inr (converts, refl))
-time-answered files loaded line (Refused BadCommand) (short, never) = absurd never
-time-answered files loaded line (Refused LineTooLong) long = (long, refl)
-time-answered files loaded line (Refused NoFile) (short, never) = absurd never
-time-answered files loaded line (Refused FileFault) (short, never) = absurd never
-time-answered files loaded line (Refused FileTooLong) (short, never) = absurd never
-time-answered files loaded line (Refused (KernelText n cause)) (short, never) = absurd never
-time-answered files loaded line (Refused TooManyKernels) (short, never) = absurd never
-time-answered files loaded line (Refused TooManyValues) (short, never) = absurd never
-time-answered files loaded line (Refused NotLoaded) (short, never) = absurd never
-time-answered files loaded line (Refused NotBuilt) (short, may) = ((trimmed line, record { short = short; trimmed = refl }, may), refl)
-time-answered files loaded line (Refused BadTime) (short, may) = ((trimmed line, record { short = short; trimmed = refl }, may), refl)
-time-answered files loaded line (Refused OutOfMemory) (short, never) = absurd never
+-- no answer is want of memory
+refused-is : (a b : LineFault) → ◌≡◌ {A = Answer} (Refused a) (Refused b) → a ≡ b
+refused-is a b e = cc
 
--- the same of a result
-pub time-may-answer : {E : Type 0} (files : Option Entries) (loaded : List Kernel) (line : List ℕ) (r : Result Answer E)
-    → IfOk r (TimeLineGives loaded line) → IfOk r (λ answer. MayAnswer files loaded line answer loaded)
-time-may-answer files loaded line (Ok answer) gives = time-answered files loaded line answer gives
-time-may-answer files loaded line (Err error) gives = tt
+load-not-memory : (files : Option Entries) (loaded : Loaded) (name : List ℕ) (r : Result Loaded KernelFault) → LoadGives files loaded name r → load_answer r ≢ Refused OutOfMemory
+load-not-memory files loaded name (Ok after) given = λ e. cc
+load-not-memory files loaded name (Err fault) given = λ e. given-line files loaded name fault given (refused-is (line_fault fault) OutOfMemory e)
+
+unload-not : (is : Bool) (fault : LineFault) → fault ≢ NotLoaded → unload_answer is ≢ Refused fault
+unload-not true fault not = λ e. cc
+unload-not false fault not = λ e. not (sym (refused-is NotLoaded fault e))
+
+text-not-memory : (s : Setting) (loaded after : Loaded) (text : List ℕ) (answer : Answer) → TextGives s loaded text answer after → answer ≢ Refused OutOfMemory
+text-not-memory s loaded after text answer (inr (time, h, same)) = times.no-memory s.job loaded text answer h
+text-not-memory s loaded after text answer (inl (begins, inl (name, asked, h))) = λ e. load-not-memory s.files loaded name h.result h.given (sym h.answered ∙ e)
+text-not-memory s loaded after text answer (inl (begins, inr (inl (name, asked, h)))) = λ e. unload-not (is_loaded name loaded) OutOfMemory (λ n. cc) (sym h.answered ∙ e)
+text-not-memory s loaded after text answer (inl (begins, inr (inr (inl (asked, said, none))))) = λ e. clear (sym said ∙ e)
+  where
+    clear : Text (codes "cleared") ≡ Refused OutOfMemory → ⊥
+    clear e = absurd cc
+text-not-memory s loaded after text answer (inl (begins, inr (inr (inr (asked, said, same))))) = λ e. bad (sym said ∙ e)
+  where
+    bad : ◌≡◌ {A = Answer} (Refused BadCommand) (Refused OutOfMemory) → ⊥
+    bad e = absurd cc
+
+pub not-memory : (s : Setting) (loaded after : Loaded) (line : List ℕ) (answer : Answer) → MayAnswer s loaded line answer after → answer ≢ Refused OutOfMemory
+not-memory s loaded after line answer (inl (long, said, same)) = λ e. late (sym said ∙ e)
+  where
+    late : ◌≡◌ {A = Answer} (Refused LineTooLong) (Refused OutOfMemory) → ⊥
+    late e = absurd cc
+not-memory s loaded after line answer (inr (short, h)) = text-not-memory s loaded after (trimmed line) answer h

@@ -1,11 +1,13 @@
 -- The words are read exactly where they ask for a conversion, and ask for one at most.
-use Rattle.std.proofs.Common.{◌≡◌, ℕ, ◌≤◌, ◌⊎◌, true, ◌&&◌, Option, Some, None, List, [], ◌∷◌, length, codes, inl, inr, refl, sym, ap, ◌∙◌, subst, arith}
+use Rattle.std.proofs.Common.{◌≡◌, ℕ, ◌≤◌, Err, true, ◌&&◌, Option, Some, None, List, [], ◌∷◌, length, codes, inl, inr, refl, sym, ap, ◌∙◌, subst, arith}
 use Rattle.std.proofs.lemmas.Bool.{cases_Bool}
 use Rattle.std.proofs.lemmas.Bool.Decides.{nat_tests}
 use Rattle.std.proofs.lemmas.Slice.Eq.{bytes_eq-Decides}
 use Rattle.std.specs.Str.{bytes_eq}
-use Rattle.st_batch.specs.Words.{AskFor, AskForNone, work_words}
+use Rattle.st_batch.specs.Words.{AskFor, WordsGive, work_words}
 use Rattle.st_batch.specs.WordsMachine.{are_options, are_systems, is_name, asked_of, work_of}
+use Rattle.st_batch.specs.declared.fault.WordFault.{WordFault}
+use Rattle.st_batch.specs.declared.fault.WordFault.TheVariants.{NotBuilt, OutOfMemory}
 use Rattle.st_batch.specs.declared.job.Job.{Job}
 use Rattle.st_batch.specs.declared.job.Work.{Work}
 use Rattle.st_batch.specs.declared.job.Work.TheVariants.{Time, Batch}
@@ -116,7 +118,7 @@ reads (a ∷ setup ∷ b ∷ from ∷ c ∷ to ∷ d ∷ text ∷ []) name time 
     ]
 reads words name time e = absurd cc
 
-pub none : (words : List (List ℕ)) → asked_of words ≡ None → AskForNone words
+pub none : (words : List (List ℕ)) → asked_of words ≡ None → WordsGive words (Err NotBuilt)
 none words e = λ job a. let s = only words job a in absurd cc
 
 -- the same of the job that was made of what was read
@@ -135,10 +137,13 @@ one-job words a b h k =
     let work : a.work ≡ b.work = sym (work_of-time_of a.work) ∙ ap work_of time ∙ work_of-time_of b.work in
     λ i. record { setup = setup i; work = work i }
 
--- whether words ask for a job can be told
-pub told-job : (words : List (List ℕ)) → ((job : Job) × AskFor words job) ⊎ AskForNone words
-told-job words = by (asked_of words) refl
-  where
-    by : (asked : Option (List ℕ × Option (List ℕ))) → asked_of words ≡ asked → ((job : Job) × AskFor words job) ⊎ AskForNone words
-    by (Some pair) e = inl (job_of pair.0 pair.1, reads words pair.0 pair.1 e)
-    by None e = inr (none words e)
+-- words that ask for a job aren't refused
+pub one-or-none : (words : List (List ℕ)) (job : Job) (fault : WordFault) → AskFor words job → WordsGive words (Err fault) → ⊥
+one-or-none words job NotBuilt asked none = none job asked
+one-or-none words job OutOfMemory asked none = none
+
+-- and are refused for one reason
+pub one-refusal : (words : List (List ℕ)) (a b : WordFault) → WordsGive words (Err a) → WordsGive words (Err b) → a ≡ b
+one-refusal words NotBuilt NotBuilt h k = refl
+one-refusal words OutOfMemory b h k = absurd h
+one-refusal words NotBuilt OutOfMemory h k = absurd k

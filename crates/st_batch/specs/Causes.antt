@@ -5,8 +5,6 @@ use Rattle.st_batch.specs.declared.answer.Answer.{Answer}
 use Rattle.st_batch.specs.declared.answer.Answer.TheVariants.{Refused}
 use Rattle.st_batch.specs.declared.fault.LineFault.{LineFault}
 use Rattle.st_batch.specs.declared.fault.LineFault.TheVariants as line
-use Rattle.st_batch.specs.declared.status.Status.{Status}
-use Rattle.st_batch.specs.declared.status.Status.TheVariants.{BadSetup}
 
 abbrev pub is_no_file : Answer → Bool
 is_no_file (Refused line.NoFile) = true
@@ -20,33 +18,22 @@ abbrev pub is_file_too_long : Answer → Bool
 is_file_too_long (Refused line.FileTooLong) = true
 is_file_too_long answer = false
 
--- Each answer that names a missing file has a miss of its own, each that names a faulty one a fault of its own, and each that
--- names one that is too long more bytes of its own than a file may have.
+-- In the whole of a run there were at least as many misses as answers that name a missing file, as many faults as answers that
+-- name a faulty one, and, for each answer that names a file that is too long, more bytes taken than a file may have.
 pub record AreCounted (before now : FileCounts) (answers : List Answer) : Type 0 where
   pub misses : RoseBy (count_by is_no_file answers) before.misses now.misses
   pub faults : RoseBy (count_by is_file_fault answers) before.faults now.faults
   pub taken : RoseBy (count_by is_file_too_long answers * 16_777_217) before.taken now.taken
 
 -- Refusals with a cause in one call: a file that isn't there has a miss and no fault, a faulty one a fault, and one that is too
--- long more bytes taken than a file may have. Want of memory refuses no line.
+-- long more bytes taken than a file may have.
 abbrev pub IsCaused : LineFault → FileCounts → FileCounts → Type 0
 IsCaused line.NoFile before now = Rose before.misses now.misses × (now.faults ≡ before.faults)
 IsCaused line.FileFault before now = Rose before.faults now.faults
 IsCaused line.FileTooLong before now = RoseBeyond 16_777_216 before.taken now.taken
-IsCaused line.OutOfMemory before now = ⊥
 IsCaused cause before now = ⊤
 
 -- the same of an answer
 abbrev pub IsAnswerCaused : Answer → FileCounts → FileCounts → Type 0
 IsAnswerCaused (Refused cause) before now = IsCaused cause before now
 IsAnswerCaused answer before now = ⊤
-
--- the same of a loading that was refused, where want of memory is free
-abbrev pub IsLoadCaused : LineFault → FileCounts → FileCounts → Type 0
-IsLoadCaused line.OutOfMemory before now = ⊤
-IsLoadCaused cause before now = IsCaused cause before now
-
--- the same of a run whose setup was refused
-abbrev pub IsStatusCaused : Status → FileCounts → FileCounts → Type 0
-IsStatusCaused (BadSetup cause) before now = IsCaused cause before now
-IsStatusCaused status before now = ⊤

@@ -1,18 +1,21 @@
 -- What the definitions of a run say by themselves, as laws.
-use Rattle.std.specs.Prelude.{◌≡◌, ◌≢◌, ℕ, ◌<◌, ◌^◌, ◌-◌, Option, Some, Ok, List, [], ◌++◌, count_by, length, ◌≤◌, ⊤}
+use Rattle.std.specs.Prelude.{◌≡◌, ◌≢◌, ℕ, ◌<◌, ◌^◌, ◌-◌, Option, Some, Result, Ok, Err, List, [], ◌++◌, count_by, length, ◌≤◌, ⊤}
 use Rattle.st_outside.specs.Entries.{Entries}
-use Rattle.st_pool.specs.declared.kernel.Kernel.{Kernel}
 use Rattle.st_batch.specs.declared.answer.Answer.{Answer}
 use Rattle.st_batch.specs.declared.answer.Answer.TheVariants.{Refused}
+use Rattle.st_batch.specs.declared.fault.KernelFault.{KernelFault}
+use Rattle.st_batch.specs.declared.fault.KernelFault.TheVariants as kernel
 use Rattle.st_batch.specs.declared.fault.LineFault.TheVariants.{FileFault}
 use Rattle.st_batch.specs.declared.job.Job.{Job}
 use Rattle.st_batch.specs.declared.status.Status.{Status}
 use Rattle.st_batch.specs.declared.status.Status.TheVariants.{Done, SomeRefused, BadWords, BadSetup, InputTooLong}
 use Rattle.st_batch.specs.Causes.{is_file_fault}
 use Rattle.st_batch.specs.Load.{LoadGives}
-use Rattle.st_batch.specs.Outcome.{HaveEnded, Outcome, Outside}
+use Rattle.st_batch.specs.Outcome.{HaveEnded, Outcome, Outside, over}
 use Rattle.st_batch.specs.Session.{MayAnswer, RunsTo}
-use Rattle.st_batch.specs.Words.{AskFor}
+use Rattle.st_batch.specs.Setting.{Loaded, Setting}
+use Rattle.st_batch.specs.Setup.{SetupGives}
+use Rattle.st_batch.specs.Words.{WordsGive}
 
 -- the run was not cut off
 abbrev pub IsComplete : Status → Type 0
@@ -25,10 +28,10 @@ IsComplete status = ⊥
 -- the files and the input tell their bytes, and the files' count of faults did not rise and isn't at its last value, where no
 -- rise would show
 pub record IsTold (o : Outside) (files : Entries) (input : List ℕ) : Type 0 where
-  pub files_told : o.files ≡ Some files
-  pub input_told : o.input ≡ Some input
-  pub no_fault : o.now.faults ≡ o.before.faults
-  pub not_last : o.before.faults < 2 ^ 64 - 1
+  pub files_told : o.files.map ≡ Some files
+  pub input_told : o.input.left ≡ Some input
+  pub no_fault : o.files_after.counts.faults ≡ o.files.counts.faults
+  pub not_last : o.files.counts.faults < 2 ^ 64 - 1
 
 -- Where the files had no fault the words, the files and the input allow at most one whole output, with one status, whatever the counts are.
 abbrev pub OneOutput : Type 0
@@ -40,15 +43,28 @@ OneOutput =
 -- Every line has an answer by every loaded list and all files, and one that names no fault of the files.
 abbrev pub EveryLineHasAnswer : Type 0
 EveryLineHasAnswer =
-    (files : Option Entries) (loaded : List Kernel) (line : List ℕ)
-    → (answer : Answer) × ((after : List Kernel) × MayAnswer files loaded line answer after × (answer ≢ Refused FileFault))
+    (s : Setting) (loaded : Loaded) (line : List ℕ)
+    → (answer : Answer) × ((after : Loaded) × MayAnswer s loaded line answer after × (answer ≢ Refused FileFault))
 
 -- By files that tell their bytes a line has at most one answer, with one loaded list after it, that names no fault of the files.
 abbrev pub OneAnswer : Type 0
 OneAnswer =
-    (files : Entries) (loaded after next : List Kernel) (line : List ℕ) (answer other : Answer)
-    → MayAnswer (Some files) loaded line answer after → MayAnswer (Some files) loaded line other next
+    (s : Setting) (files : Entries) (loaded after next : Loaded) (line : List ℕ) (answer other : Answer)
+    → s.files ≡ Some files → MayAnswer s loaded line answer after → MayAnswer s loaded line other next
     → answer ≢ Refused FileFault → other ≢ Refused FileFault → (answer ≡ other) × (after ≡ next)
+
+-- Every loading gives something, and something other than a fault of the files.
+abbrev pub EveryLoadingGives : Type 0
+EveryLoadingGives =
+    (files : Option Entries) (loaded : Loaded) (name : List ℕ)
+    → (result : Result Loaded KernelFault) × LoadGives files loaded name result × (result ≢ Err kernel.FileFault)
+
+-- By files that tell their bytes a loading gives at most one thing that is no fault of the files.
+abbrev pub OneLoading : Type 0
+OneLoading =
+    (files : Entries) (loaded : Loaded) (name : List ℕ) (result other : Result Loaded KernelFault)
+    → LoadGives (Some files) loaded name result → LoadGives (Some files) loaded name other
+    → result ≢ Err kernel.FileFault → other ≢ Err kernel.FileFault → result ≡ other
 
 -- What was read of an input that tells its bytes ends one list of lines.
 abbrev pub OneEnding : Type 0
@@ -58,9 +74,9 @@ OneEnding =
 -- Answers to some first lines go on to answers to all lines, and those to the later lines name no fault of the files.
 abbrev pub EveryBeginningGoesOn : Type 0
 EveryBeginningGoesOn =
-    (files : Option Entries) (loaded after : List Kernel) (lines more : List (List ℕ)) (answers : List Answer)
-    → RunsTo files loaded lines answers after
-    → (later : List Answer) × ((last : List Kernel) × RunsTo files loaded (lines ++ more) (answers ++ later) last × (count_by is_file_fault later ≡ 0))
+    (s : Setting) (loaded after : Loaded) (lines more : List (List ℕ)) (answers : List Answer)
+    → RunsTo s loaded lines answers after
+    → (later : List Answer) × ((last : Loaded) × RunsTo s loaded (lines ++ more) (answers ++ later) last × (count_by is_file_fault later ≡ 0))
 
 -- all lines were answered, or the setup was refused for a fault of the files, or a fault of the input or the output or want of
 -- memory cut the run off
@@ -75,6 +91,6 @@ IsAnsweredOrCut status = ⊤
 -- the setup is refused for a fault of the files or the run is cut off.
 abbrev pub GoodRunIsAnswered : Type 0
 GoodRunIsAnswered =
-    (o : Outside) (files : Entries) (input : List ℕ) (words : List (List ℕ)) (job : Job) (loaded : List Kernel) (status : Status) (bytes : List ℕ)
-    → o.files ≡ Some files → o.input ≡ Some input → AskFor words job → LoadGives (Some files) [] job.setup (Ok loaded) → length input ≤ 67_108_864
+    (o : Outside) (files : Entries) (input : List ℕ) (words : List (List ℕ)) (job : Job) (loaded : Loaded) (status : Status) (bytes : List ℕ)
+    → o.files.map ≡ Some files → o.input.left ≡ Some input → WordsGive words (Ok job) → SetupGives (over o job) (Ok loaded) → length input ≤ 67_108_864
     → Outcome o words status bytes → IsAnsweredOrCut status

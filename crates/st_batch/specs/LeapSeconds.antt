@@ -8,8 +8,8 @@ use Rattle.st_decimal.specs.Scaling.{IsUnits18, IsWhole}
 use Rattle.st_kernel_text.specs.declared.value.Value.{Value}
 use Rattle.st_kernel_text.specs.declared.value.Value.TheVariants.{Number}
 use Rattle.st_pool.specs.Variable.{loaded_values}
-use Rattle.st_pool.specs.declared.kernel.Kernel.{Kernel}
 use Rattle.st_batch.specs.declared.leap_seconds.LeapPair.{LeapPair}
+use Rattle.st_batch.specs.Setting.{Loaded}
 
 -- each pair's date is later than the one before, and its count one more
 abbrev pub Rise : List LeapPair → Type 0
@@ -52,9 +52,13 @@ count_before [] = pos 0
 count_before (p ∷ pairs) = pos p.count -ℤ pos 1
 
 -- the loaded kernels give the table by the values of DELTET/DELTA_AT
-pub record GiveTable (loaded : List Kernel) (table : List LeapPair) : Type 0 where
+pub record GiveTable (loaded : Loaded) (table : List LeapPair) : Type 0 where
   pub spelled : SpellPairs (loaded_values (codes "DELTET/DELTA_AT") loaded) table
   pub is_table : IsLeapTable table
+
+-- the loaded kernels give no table of leap seconds
+abbrev pub HaveNoTable : Loaded → Type 0
+HaveNoTable loaded = (table : List LeapPair) → GiveTable loaded table → ⊥
 
 -- the last pair whose date is at most a midnight
 abbrev pub last_pair : List LeapPair → ℤ → Option LeapPair

@@ -2,7 +2,6 @@
 use Rattle.std.specs.Prelude.{◌≡◌, ℕ, ◌+◌, ◌<◌, ◌≤◌, Option, Some, None, Result, Ok, Err, List, [], ◌∷◌, ◌++◌, length, ⊤}
 use Rattle.st_kernel_text.specs.File.{Reads}
 use Rattle.st_kernel_text.specs.declared.assignment.Assignment.{Assignment}
-use Rattle.st_kernel_text.specs.declared.fault.TextCause.{TextCause}
 use Rattle.st_kernel_text.specs.declared.fault.TextFault.{TextFault}
 use Rattle.st_kernel_text.specs.declared.fault.TextFault.TheVariants as text
 use Rattle.st_outside.specs.Entries.{Entries, bytes_of, IsAbsent}
@@ -10,8 +9,11 @@ use Rattle.st_pool.specs.Loaded.{value_count, loaded_count}
 use Rattle.st_pool.specs.declared.fault.LoadFault.{LoadFault}
 use Rattle.st_pool.specs.declared.fault.LoadFault.TheVariants as pool
 use Rattle.st_pool.specs.declared.kernel.Kernel.{Kernel}
+use Rattle.st_batch.specs.declared.fault.KernelFault.{KernelFault}
+use Rattle.st_batch.specs.declared.fault.KernelFault.TheVariants.{NoFile, FileFault, FileTooLong, KernelText, TooManyKernels, TooManyValues, OutOfMemory}
 use Rattle.st_batch.specs.declared.fault.LineFault.{LineFault}
-use Rattle.st_batch.specs.declared.fault.LineFault.TheVariants.{NoFile, FileFault, FileTooLong, KernelText, TooManyKernels, TooManyValues, OutOfMemory}
+use Rattle.st_batch.specs.declared.fault.LineFault.TheVariants as line
+use Rattle.st_batch.specs.Setting.{Loaded}
 
 -- the file of this name has these bytes
 abbrev pub HasFile : Option Entries → List ℕ → List ℕ → Type 0
@@ -23,75 +25,55 @@ abbrev pub HasLongFile : Option Entries → List ℕ → Type 0
 HasLongFile None name = ⊤
 HasLongFile (Some files) name = (bytes : List ℕ) × (bytes_of name files ≡ Some bytes) × (16_777_216 < length bytes)
 
--- what is left to read is these bytes
-abbrev pub IsRest : Option (List ℕ) → List ℕ → Type 0
-IsRest None bytes = ⊤
-IsRest (Some left) bytes = left ≡ bytes
+-- What a loaded list makes of a kernel: it stands at the end of the new list, where fewer than 1,000 kernels are loaded and
+-- the values of all are at most 2,000,000.
+abbrev pub Takes : Loaded → Kernel → Result Loaded KernelFault → Type 0
+Takes loaded kernel (Ok after) =
+    (length loaded < 1000) × (loaded_count loaded + value_count kernel.assignments ≤ 2_000_000) × (after ≡ loaded ++ kernel ∷ [])
+Takes loaded kernel (Err TooManyKernels) = 1000 ≤ length loaded
+Takes loaded kernel (Err TooManyValues) =
+    (length loaded < 1000) × (2_000_000 < loaded_count loaded + value_count kernel.assignments)
+Takes loaded kernel (Err fault) = ⊥
 
--- what is left to read is longer than a number of bytes
-abbrev pub IsLongRest : Option (List ℕ) → ℕ → Type 0
-IsLongRest None count = ⊤
-IsLongRest (Some left) count = count < length left
+-- what the bytes of a file give: its first fault as a kernel text, or what the loaded list makes of its assignments
+abbrev pub BytesGive : List ℕ → Loaded → List ℕ → Result Loaded KernelFault → Type 0
+BytesGive bytes loaded name (Err (KernelText line cause)) = Reads bytes (Err (text.At line cause))
+BytesGive bytes loaded name result =
+    (list : List Assignment) × Reads bytes (Ok list) × Takes loaded (record { name = name; assignments = list }) result
 
--- the file of this name is a kernel with these assignments
-pub record HoldsKernel (files : Option Entries) (name : List ℕ) (assignments : List Assignment) : Type 0 where
+-- the file of this name has bytes, no more than a file may have, that give this
+pub record FileGives (files : Option Entries) (loaded : Loaded) (name : List ℕ) (result : Result Loaded KernelFault) : Type 0 where
   pub bytes : List ℕ
   pub has : HasFile files name bytes
   pub few : length bytes ≤ 16_777_216
-  pub reads : Reads bytes (Ok assignments)
-
--- the file of this name is no kernel, by its first fault
-pub record HoldsFault (files : Option Entries) (name : List ℕ) (line : ℕ) (cause : TextCause) : Type 0 where
-  pub bytes : List ℕ
-  pub has : HasFile files name bytes
-  pub few : length bytes ≤ 16_777_216
-  pub reads : Reads bytes (Err (text.At line cause))
-
--- the file of this name is a kernel, which the loaded list takes: it stands at the end of the new list
-pub record Loads (files : Option Entries) (loaded : List Kernel) (name : List ℕ) (after : List Kernel) : Type 0 where
-  pub assignments : List Assignment
-  pub kernel : HoldsKernel files name assignments
-  pub kernels : length loaded < 1000
-  pub values : loaded_count loaded + value_count assignments ≤ 2_000_000
-  pub appended : after ≡ loaded ++ record { name = name; assignments = assignments } ∷ []
-
--- the file of this name is a kernel, but 1,000 are loaded
-pub record FindsNoPlace (files : Option Entries) (loaded : List Kernel) (name : List ℕ) : Type 0 where
-  pub assignments : List Assignment
-  pub kernel : HoldsKernel files name assignments
-  pub full : 1000 ≤ length loaded
-
--- the file of this name is a kernel, but its values and the loaded ones are more than 2,000,000
-pub record FindsNoRoom (files : Option Entries) (loaded : List Kernel) (name : List ℕ) : Type 0 where
-  pub assignments : List Assignment
-  pub kernel : HoldsKernel files name assignments
-  pub kernels : length loaded < 1000
-  pub values : 2_000_000 < loaded_count loaded + value_count assignments
+  pub gives : BytesGive bytes loaded name result
 
 -- What a loading may give: the loaded list after it, or why there is none. That a file was faulty is told by the
 -- count of faults alone.
-abbrev pub LoadGives : Option Entries → List Kernel → List ℕ → Result (List Kernel) LineFault → Type 0
-LoadGives files loaded name (Ok after) = Loads files loaded name after
+abbrev pub LoadGives : Option Entries → Loaded → List ℕ → Result Loaded KernelFault → Type 0
 LoadGives files loaded name (Err NoFile) = IsAbsent files name
 LoadGives files loaded name (Err FileFault) = ⊤
 LoadGives files loaded name (Err FileTooLong) = HasLongFile files name
-LoadGives files loaded name (Err (KernelText line cause)) = HoldsFault files name line cause
-LoadGives files loaded name (Err TooManyKernels) = FindsNoPlace files loaded name
-LoadGives files loaded name (Err TooManyValues) = FindsNoRoom files loaded name
-LoadGives files loaded name (Err cause) = ⊥
+LoadGives files loaded name (Err OutOfMemory) = ⊥
+LoadGives files loaded name result = FileGives files loaded name result
 
--- a loading may be refused so; want of memory is free
-abbrev pub LoadRefuses : Option Entries → List Kernel → List ℕ → LineFault → Type 0
-LoadRefuses files loaded name OutOfMemory = ⊤
-LoadRefuses files loaded name cause = LoadGives files loaded name (Err cause)
+-- the refusal of a line or a setup whose loading is refused
+abbrev pub line_fault : KernelFault → LineFault
+line_fault NoFile = line.NoFile
+line_fault FileFault = line.FileFault
+line_fault FileTooLong = line.FileTooLong
+line_fault (KernelText n cause) = line.KernelText n cause
+line_fault TooManyKernels = line.TooManyKernels
+line_fault TooManyValues = line.TooManyValues
+line_fault OutOfMemory = line.OutOfMemory
 
 -- the refusal of a file that is no kernel
-abbrev pub refusal_of_text : TextFault → LineFault
-refusal_of_text (text.At line cause) = KernelText line cause
-refusal_of_text text.OutOfMemory = OutOfMemory
+abbrev pub fault_of_text : TextFault → KernelFault
+fault_of_text (text.At line cause) = KernelText line cause
+fault_of_text text.OutOfMemory = OutOfMemory
 
 -- the refusal of a kernel that the pool doesn't take
-abbrev pub refusal_of_load : LoadFault → LineFault
-refusal_of_load pool.TooManyKernels = TooManyKernels
-refusal_of_load pool.TooManyValues = TooManyValues
-refusal_of_load pool.OutOfMemory = OutOfMemory
+abbrev pub fault_of_pool : LoadFault → KernelFault
+fault_of_pool pool.TooManyKernels = TooManyKernels
+fault_of_pool pool.TooManyValues = TooManyValues
+fault_of_pool pool.OutOfMemory = OutOfMemory

@@ -1,29 +1,28 @@
 -- What a run may write and how it may end.
-use Rattle.std.specs.Prelude.{◌≡◌, count_by, ℕ, ◌<◌, Bool, true, false, if◌then◌else◌, Ok, Err, Option, Some, None, List, [], ◌∷◌, ◌++◌, length, codes, ◌==◌, ◌⊎◌, ⊤}
-use Rattle.std.specs.Io.KnownBytes.{Appends, Consumes}
+use Rattle.std.specs.Prelude.{◌≡◌, ℕ, ◌<◌, Bool, true, false, if◌then◌else◌, Ok, Err, Option, Some, None, List, [], ◌∷◌, ◌++◌, length, ◌==◌, ◌⊎◌, ⊤}
+use Rattle.std.specs.Io.KnownBytes.{Appends, Consumes, IsAtEnd}
 use Rattle.std.specs.List.{flat_map, list_any}
-use Rattle.st_outside.specs.Causes.{FileCounts, RoseBy}
-use Rattle.st_outside.specs.Entries.{Entries}
-use Rattle.st_pool.specs.declared.kernel.Kernel.{Kernel}
+use Rattle.st_outside.specs.States.{FilesState, InputState}
 use Rattle.st_text.specs.Lines.{lines_of}
 use Rattle.st_batch.specs.declared.answer.Answer.{Answer}
 use Rattle.st_batch.specs.declared.answer.Answer.TheVariants.{Text, Refused}
-use Rattle.st_batch.specs.declared.fault.WordFault.TheVariants.{NotBuilt}
 use Rattle.st_batch.specs.declared.fault.LineFault.{LineFault}
+use Rattle.st_batch.specs.declared.fault.WordFault.{WordFault}
 use Rattle.st_batch.specs.declared.job.Job.{Job}
+use Rattle.st_batch.specs.declared.job.Work.{Work}
 use Rattle.st_batch.specs.declared.job.Work.TheVariants.{Batch}
 use Rattle.st_batch.specs.declared.status.Status.{Status}
 use Rattle.st_batch.specs.declared.status.Status.TheVariants.{Done, SomeRefused, BadWords, BadSetup, ReadFault, WriteFault, OutOfMemory, InputTooLong}
-use Rattle.st_batch.specs.Causes.{AreCounted, is_file_fault}
-use Rattle.st_batch.specs.Load.{LoadGives}
+use Rattle.st_batch.specs.Causes.{AreCounted, IsCaused}
 use Rattle.st_batch.specs.Session.{RunsTo}
-use Rattle.st_batch.specs.Texts.{refusal_text}
-use Rattle.st_batch.specs.Words.{AskFor, AskForNone, AreLines, IsShortInput}
+use Rattle.st_batch.specs.Setting.{Loaded, Setting}
+use Rattle.st_batch.specs.Setup.{SetupGives}
+use Rattle.st_batch.specs.Texts.{line_of, setup_line, words_line}
+use Rattle.st_batch.specs.Words.{AskFor, WordsGive, AreLines, IsShortInput}
 
--- an answer as a line of the output; 10 is the line feed
-abbrev pub line_of : Answer → List ℕ
-line_of (Text text) = text ++ (10 ∷ [])
-line_of (Refused cause) = codes "refused " ++ (refusal_text cause ++ (10 ∷ []))
+-- what a run writes for the answers of its lines: each as a line of its own
+abbrev pub output_of : Work → List Answer → List ℕ
+output_of work answers = flat_map line_of answers
 
 abbrev pub is_refused : Answer → Bool
 is_refused (Text text) = false
@@ -33,60 +32,46 @@ is_refused (Refused cause) = true
 abbrev pub status_of : List Answer → Status
 status_of answers = if list_any is_refused answers then SomeRefused else Done
 
--- what stands outside of a run: the files, the input and what the run left of it, where they tell their bytes, and the
--- counts before and after it
+-- what stands outside of a run: the files and the input before it, and as it left them
 pub record Outside : Type 0 where
-  pub files : Option Entries
-  pub input : Option (List ℕ)
-  pub left : Option (List ℕ)
-  pub before : FileCounts
-  pub now : FileCounts
+  pub files : FilesState
+  pub files_after : FilesState
+  pub input : InputState
+  pub input_after : InputState
 
--- The session of a job: the setup is loaded, and then these lines are answered.
-pub record Answers (o : Outside) (job : Job) (lines : List (List ℕ)) (answers : List Answer) : Type 0 where
-  pub loaded : List Kernel
-  pub after : List Kernel
-  pub setup : LoadGives o.files [] job.setup (Ok loaded)
-  pub answered : RunsTo o.files loaded lines answers after
-  pub counted : AreCounted o.before o.now answers
+-- what stays the same for the lines of a job
+abbrev pub over : Outside → Job → Setting
+over o job = record { files = o.files.map; job = job }
 
--- all lines were answered
-pub record Answered (o : Outside) (words : List (List ℕ)) (status : Status) (bytes : List ℕ) : Type 0 where
-  pub job : Job
+-- the input, where it is to be read, was read to its end
+abbrev pub IsReadWhole : Work → Option (List ℕ) → Type 0
+IsReadWhole Batch left = IsAtEnd left
+IsReadWhole work left = ⊤
+
+-- all lines of a job were answered, from a loaded list on, and all answers written
+pub record AllAnswered (o : Outside) (job : Job) (loaded : Loaded) (status : Status) (bytes : List ℕ) : Type 0 where
   pub lines : List (List ℕ)
   pub answers : List Answer
-  pub asked : AskFor words job
-  pub are_lines : AreLines job.work o.input lines
-  pub short : IsShortInput job.work o.input
-  pub session : Answers o job lines answers
+  pub after : Loaded
+  pub are_lines : AreLines job.work loaded o.input.left lines
+  pub whole : IsReadWhole job.work o.input_after.left
+  pub short : IsShortInput job.work o.input.left
+  pub answered : RunsTo (over o job) loaded lines answers after
+  pub counted : AreCounted o.files.counts o.files_after.counts answers
   pub ended : status ≡ status_of answers
-  pub written : bytes ≡ flat_map line_of answers
+  pub written : bytes ≡ output_of job.work answers
 
--- the words were refused
-pub record WordsRefused (words : List (List ℕ)) (bytes : List ℕ) : Type 0 where
-  pub none : AskForNone words
-  pub written : bytes ≡ codes "bad words NOT_BUILT\n"
-
--- the setup was refused, and nothing read of the input
-pub record SetupRefused (o : Outside) (words : List (List ℕ)) (cause : LineFault) (bytes : List ℕ) : Type 0 where
-  pub job : Job
-  pub asked : AskFor words job
-  pub given : LoadGives o.files [] job.setup (Err cause)
-  pub caused : RoseBy (count_by is_file_fault (Refused cause ∷ [])) o.before.faults o.now.faults
-  pub unread : o.left ≡ o.input
-  pub written : bytes ≡ codes "bad setup " ++ (refusal_text cause ++ (10 ∷ []))
-
--- some first lines were answered, and a beginning of their answers was written
-pub record BeginsAnswers (o : Outside) (words : List (List ℕ)) (bytes : List ℕ) : Type 0 where
-  pub job : Job
+-- some first lines were answered, and a beginning of their answers written
+pub record SomeAnswered (o : Outside) (job : Job) (loaded : Loaded) (bytes : List ℕ) : Type 0 where
   pub lines : List (List ℕ)
   pub more : List (List ℕ)
   pub answers : List Answer
+  pub after : Loaded
   pub rest : List ℕ
-  pub asked : AskFor words job
-  pub are_lines : AreLines job.work o.input (lines ++ more)
-  pub session : Answers o job lines answers
-  pub written : flat_map line_of answers ≡ bytes ++ rest
+  pub are_lines : AreLines job.work loaded o.input.left (lines ++ more)
+  pub answered : RunsTo (over o job) loaded lines answers after
+  pub counted : AreCounted o.files.counts o.files_after.counts answers
+  pub written : output_of job.work answers ≡ bytes ++ rest
 
 -- the bytes have no line feed
 abbrev pub HasNoFeed : List ℕ → Type 0
@@ -102,61 +87,88 @@ pub record HaveEnded (input left : Option (List ℕ)) (lines : List (List ℕ)) 
   pub first : (later : List ℕ) → lines_of (read ++ later) ≡ lines ++ lines_of (begun ++ later)
 
 -- the lines that had ended before a read failed were answered, and all their answers written
-pub record AnswersRead (o : Outside) (words : List (List ℕ)) (bytes : List ℕ) : Type 0 where
-  pub job : Job
+pub record AnsweredTillFault (o : Outside) (job : Job) (loaded : Loaded) (bytes : List ℕ) : Type 0 where
   pub lines : List (List ℕ)
   pub more : List (List ℕ)
   pub answers : List Answer
-  pub asked : AskFor words job
-  pub are_lines : AreLines job.work o.input (lines ++ more)
-  pub ended : HaveEnded o.input o.left lines
-  pub session : Answers o job lines answers
-  pub written : bytes ≡ flat_map line_of answers
-
--- a beginning of the line was written that says why there are no answers
-abbrev pub BeginsRefusal : Outside → List (List ℕ) → List ℕ → Type 0
-BeginsRefusal o words bytes =
-    (rest : List ℕ) × (WordsRefused words (bytes ++ rest) ⊎ ((cause : LineFault) × SetupRefused o words cause (bytes ++ rest)))
-
--- a beginning of what may be written
-abbrev pub BeginsAllowed : Outside → List (List ℕ) → List ℕ → Type 0
-BeginsAllowed o words bytes = BeginsAnswers o words bytes ⊎ BeginsRefusal o words bytes
+  pub after : Loaded
+  pub are_lines : AreLines job.work loaded o.input.left (lines ++ more)
+  pub ended : HaveEnded o.input.left o.input_after.left lines
+  pub answered : RunsTo (over o job) loaded lines answers after
+  pub counted : AreCounted o.files.counts o.files_after.counts answers
+  pub written : bytes ≡ output_of job.work answers
 
 -- the input, where it tells its bytes, has more than it may have
 abbrev pub IsLongInput : Option (List ℕ) → Type 0
 IsLongInput None = ⊤
 IsLongInput (Some bytes) = 67_108_864 < length bytes
 
+-- what was written of the lines of a job, from a loaded list on, by how their answering ended
+abbrev pub LinesOutcome : Outside → Job → Loaded → Status → List ℕ → Type 0
+LinesOutcome o job loaded Done bytes = AllAnswered o job loaded Done bytes
+LinesOutcome o job loaded SomeRefused bytes = AllAnswered o job loaded SomeRefused bytes
+LinesOutcome o job loaded ReadFault bytes = AnsweredTillFault o job loaded bytes
+LinesOutcome o job loaded InputTooLong bytes = SomeAnswered o job loaded bytes × IsLongInput o.input.left
+LinesOutcome o job loaded WriteFault bytes = SomeAnswered o job loaded bytes
+LinesOutcome o job loaded OutOfMemory bytes = SomeAnswered o job loaded bytes
+LinesOutcome o job loaded status bytes = ⊥
+
+-- the words ask for a job, its setup loads, and the answering of its lines ended so
+pub record LinesEnded (o : Outside) (words : List (List ℕ)) (status : Status) (bytes : List ℕ) : Type 0 where
+  pub job : Job
+  pub loaded : Loaded
+  pub asked : WordsGive words (Ok job)
+  pub setup : SetupGives (over o job) (Ok loaded)
+  pub lines : LinesOutcome o job loaded status bytes
+
+-- the words were refused
+pub record WordsRefused (words : List (List ℕ)) (fault : WordFault) (bytes : List ℕ) : Type 0 where
+  pub given : WordsGive words (Err fault)
+  pub written : bytes ≡ words_line fault
+
+-- the setup was refused, and nothing read of the input
+pub record SetupRefused (o : Outside) (words : List (List ℕ)) (cause : LineFault) (bytes : List ℕ) : Type 0 where
+  pub job : Job
+  pub asked : WordsGive words (Ok job)
+  pub given : SetupGives (over o job) (Err cause)
+  pub caused : IsCaused cause o.files.counts o.files_after.counts
+  pub unread : o.input_after ≡ o.input
+  pub written : bytes ≡ setup_line cause
+
+-- a beginning of the line was written that says why there are no answers
+abbrev pub RefusalBegins : Outside → List (List ℕ) → List ℕ → Type 0
+RefusalBegins o words bytes =
+    (rest : List ℕ) × (((fault : WordFault) × WordsRefused words fault (bytes ++ rest)) ⊎ ((cause : LineFault) × SetupRefused o words cause (bytes ++ rest)))
+
+-- nothing was written, and nothing read of the input
+pub record NothingDone (o : Outside) (bytes : List ℕ) : Type 0 where
+  pub unread : o.input_after ≡ o.input
+  pub written : bytes ≡ []
+
+-- the output or want of memory cut the run off: within its lines, within the line that refuses it, or before both
+abbrev pub IsCutOff : Outside → List (List ℕ) → Status → List ℕ → Type 0
+IsCutOff o words status bytes = LinesEnded o words status bytes ⊎ (RefusalBegins o words bytes ⊎ NothingDone o bytes)
+
 -- The bytes that the output took, by how the run ended: all that is to be written, or a beginning of it.
 abbrev pub Outcome : Outside → List (List ℕ) → Status → List ℕ → Type 0
-Outcome o words Done bytes = Answered o words Done bytes
-Outcome o words SomeRefused bytes = Answered o words SomeRefused bytes
-Outcome o words (BadWords NotBuilt) bytes = WordsRefused words bytes
-Outcome o words (BadWords fault) bytes = ⊥
+Outcome o words (BadWords fault) bytes = WordsRefused words fault bytes
 Outcome o words (BadSetup cause) bytes = SetupRefused o words cause bytes
-Outcome o words ReadFault bytes = AnswersRead o words bytes
-Outcome o words InputTooLong bytes = BeginsAnswers o words bytes × IsLongInput o.input
-Outcome o words WriteFault bytes = BeginsAllowed o words bytes
-Outcome o words OutOfMemory bytes = BeginsAllowed o words bytes
+Outcome o words WriteFault bytes = IsCutOff o words WriteFault bytes
+Outcome o words OutOfMemory bytes = IsCutOff o words OutOfMemory bytes
+Outcome o words status bytes = LinesEnded o words status bytes
 
 -- there are bytes that meet P and that the output took, where it tells that
 abbrev pub Took : Option (List ℕ) → Option (List ℕ) → (List ℕ → Type 0) → Type 0
 Took before after P = (bytes : List ℕ) × Appends before after bytes × P bytes
 
--- a run that ended so has answered all lines
-abbrev pub AnswersAll : Status → Type 0
-AnswersAll Done = ⊤
-AnswersAll SomeRefused = ⊤
-AnswersAll status = ⊥
+-- all lines were answered
+abbrev pub IsAnswered : Status → Type 0
+IsAnswered Done = ⊤
+IsAnswered SomeRefused = ⊤
+IsAnswered status = ⊥
 
 -- a run of these words that ended so had nothing to read
 abbrev pub ReadsNothing : List (List ℕ) → Status → Type 0
 ReadsNothing words (BadWords fault) = ⊤
 ReadsNothing words (BadSetup cause) = ⊤
 ReadsNothing words status = (job : Job) → AskFor words job → job.work ≡ Batch → ⊥
-
--- a run of these words that ended so has answered the lines of its input
-abbrev pub ReadsAll : List (List ℕ) → Status → Type 0
-ReadsAll words Done = (job : Job) × AskFor words job × (job.work ≡ Batch)
-ReadsAll words SomeRefused = (job : Job) × AskFor words job × (job.work ≡ Batch)
-ReadsAll words status = ⊥

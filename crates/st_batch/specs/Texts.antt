@@ -1,10 +1,14 @@
--- The texts of refusals and the numbers of statuses, which are this project's own.
+-- The lines that are written, with the texts of refusals, and the numbers of statuses. They are this project's own.
 use Rattle.std.specs.Prelude.{ℕ, List, [], ◌∷◌, ◌++◌, codes}
 use Rattle.st_text.specs.Bytes.{decimal_digits}
 use Rattle.st_kernel_text.specs.declared.fault.TextCause.{TextCause}
 use Rattle.st_kernel_text.specs.declared.fault.TextCause.TheVariants.{LineTooLong as LongLine, NoName, NoSign, NoValue, BadNumber, BadString, BadDate, MixedKinds, Unclosed, BadByte, TrailingText}
+use Rattle.st_batch.specs.declared.answer.Answer.{Answer}
+use Rattle.st_batch.specs.declared.answer.Answer.TheVariants.{Text, Refused}
 use Rattle.st_batch.specs.declared.fault.LineFault.{LineFault}
 use Rattle.st_batch.specs.declared.fault.LineFault.TheVariants.{BadCommand, LineTooLong, NoFile, FileFault, FileTooLong, KernelText, TooManyKernels, TooManyValues, NotLoaded, NotBuilt, BadTime, OutOfMemory as NoMemory}
+use Rattle.st_batch.specs.declared.fault.WordFault.{WordFault}
+use Rattle.st_batch.specs.declared.fault.WordFault.TheVariants as word
 use Rattle.st_batch.specs.declared.status.Status.{Status}
 use Rattle.st_batch.specs.declared.status.Status.TheVariants.{Done, SomeRefused, BadWords, BadSetup, ReadFault, WriteFault, OutOfMemory, InputTooLong}
 
@@ -36,6 +40,24 @@ refusal_text NotLoaded = codes "NOT_LOADED"
 refusal_text NotBuilt = codes "NOT_BUILT"
 refusal_text BadTime = codes "BAD_TIME"
 refusal_text NoMemory = []
+
+-- the text of refused words. Want of memory is never told by a line.
+abbrev pub word_text : WordFault → List ℕ
+word_text word.NotBuilt = codes "NOT_BUILT"
+word_text word.OutOfMemory = []
+
+-- an answer as a line of the output; 10 is the line feed
+abbrev pub line_of : Answer → List ℕ
+line_of (Text text) = text ++ (10 ∷ [])
+line_of (Refused cause) = codes "refused " ++ (refusal_text cause ++ (10 ∷ []))
+
+-- the line that says why the setup is refused
+abbrev pub setup_line : LineFault → List ℕ
+setup_line cause = codes "bad setup " ++ (refusal_text cause ++ (10 ∷ []))
+
+-- the line that says why the words are refused
+abbrev pub words_line : WordFault → List ℕ
+words_line fault = codes "bad words " ++ (word_text fault ++ (10 ∷ []))
 
 -- the exit status
 abbrev pub code_of : Status → ℕ

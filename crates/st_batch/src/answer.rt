@@ -1,12 +1,11 @@
 //! What a line is answered.
 
 ghost use Rattle.std.specs.Prelude.{◌≡◌, ◌≢◌, [], ◌∷◌, ◌++◌, codes, IfOk, OnOk, OnErr};
-ghost use Rattle.st_batch.specs.Outcome.{line_of};
 ghost use Rattle.st_batch.specs.declared.answer.Answer.TheVariants.{Text, Refused};
 ghost use Rattle.st_batch.specs.Texts as texts;
 ghost use Rattle.st_text.specs.Bytes.{decimal_digits};
 
-use crate::fault::LineFault;
+use crate::fault::{LineFault, WordFault};
 use st_decimal::{Line, OutOfMemory, put_fixed};
 use st_kernel_text::TextCause;
 use std::alloc::Global;
@@ -30,7 +29,7 @@ pub fn said(alloc: Global, text: &[u8]) -> Result<Answer, OutOfMemory>
 /// Appends an answer as a line of the output.
 pub fn put_answer(out: &mut Vec<u8>, answer: &Answer) -> Result<(), OutOfMemory>
     requires { answer.now ≢ Refused LineFault.OutOfMemory }
-    ensures { OnOk result (out.new.items ≡ out.old.items ++ line_of answer.now) }
+    ensures { OnOk result (out.new.items ≡ out.old.items ++ texts.line_of answer.now) }
 {
     match answer {
         Answer::Text(text) => {
@@ -51,6 +50,26 @@ pub fn put_refused(out: &mut Vec<u8>, words: &[u8], fault: &LineFault) -> Result
     put_refusal(out, fault)?;
     out.push(b'\n')?;
     Ok(())
+}
+
+/// Appends the line that says why the words are refused.
+pub fn put_words_refused(out: &mut Vec<u8>, fault: WordFault) -> Result<(), OutOfMemory>
+    ensures { OnOk result (out.new.items ≡ out.old.items ++ texts.words_line fault) }
+{
+    out.extend_from_slice(b"bad words ")?;
+    out.extend_from_slice(word_text(fault))?;
+    out.push(b'\n')?;
+    Ok(())
+}
+
+/// The name of why the words are refused.
+fn word_text(fault: WordFault) -> &'static [u8]
+    ensures { result.now ≡ texts.word_text fault }
+{
+    match fault {
+        WordFault::NotBuilt => b"NOT_BUILT",
+        WordFault::OutOfMemory => b"",
+    }
 }
 
 /// Appends the text of a refusal, which isn't want of memory: its name, and where a file is no kernel the line and

@@ -2,9 +2,10 @@
 
 ghost use Rattle.std.specs.Prelude.{◌≡◌, ◌≤◌, ◌<◌, length, false, if◌then◌else◌, [], OnOk, OnErr, IsErrOf};
 ghost use Rattle.std.specs.Io.KnownBytes.{Appends};
-ghost use Rattle.st_outside.specs.Causes.{AreLater, Rose};
-ghost use Rattle.st_batch.specs.Progress.{AnswersOne, Writes};
-ghost use Rattle.st_batch.specs.Taken.{TakesPrefix};
+ghost use Rattle.st_outside.specs.Causes.{Rose};
+ghost use Rattle.st_outside.specs.States.{KeepsFiles};
+ghost use Rattle.st_batch.specs.LinesSteps.{AnswersLine, Writes};
+ghost use Rattle.st_batch.specs.OutputSteps.{TakesPrefix};
 
 use crate::answer::{Answer, put_answer};
 use crate::session::Session;
@@ -44,12 +45,10 @@ impl Answering {
 
     /// Answers one line. Where memory is refused nothing of its answer is gathered.
     pub fn answer<F: Files>(&mut self, line: &[u8], files: &mut F) -> Result<(), OutOfMemory>
-        ensures ok { OnOk result (AnswersOne (F.map files.old) (F.counts files.old) (F.counts files.new)
+        ensures ok { OnOk result (AnswersLine (F.state files.old) (F.state files.new)
             self.old self.new line.now) }
         ensures err { OnErr result (self.new.gathered.items ≡ self.old.gathered.items) }
-        ensures closed { F.opened files.old ≡ false → F.opened files.new ≡ false }
-        ensures map { F.map files.new ≡ F.map files.old }
-        ensures later { AreLater (F.counts files.old) (F.counts files.new) }
+        ensures files { KeepsFiles (F.state files.old) (F.state files.new) }
     {
         let answer = self.session.answer_line(line, files)?;
         let mut text = Vec::new(self.alloc);
@@ -61,9 +60,9 @@ impl Answering {
 
     /// Writes what is gathered once that is `ENOUGH` bytes.
     pub fn write_enough<O: Sink>(&mut self, out: &mut O) -> Result<(), SinkFault>
-        ensures ok { OnOk result (Writes (O.taken out.old) (O.taken out.new) self.old self.new) }
+        ensures ok { OnOk result (Writes (O.bytes out.old) (O.bytes out.new) self.old self.new) }
         ensures few { OnOk result (length self.new.gathered.items < 65536) }
-        ensures err { OnErr result (TakesPrefix (O.taken out.old) (O.taken out.new) self.old.gathered.items) }
+        ensures err { OnErr result (TakesPrefix (O.bytes out.old) (O.bytes out.new) self.old.gathered.items) }
         ensures later { O.faults out.old ≤ O.faults out.new }
         ensures cause { IsErrOf result SinkFault.Failed → Rose (O.faults out.old) (O.faults out.new) }
     {
@@ -75,9 +74,9 @@ impl Answering {
 
     /// Writes what is gathered.
     pub fn write<O: Sink>(&mut self, out: &mut O) -> Result<(), SinkFault>
-        ensures ok { OnOk result (Appends (O.taken out.old) (O.taken out.new) self.old.gathered.items) }
+        ensures ok { OnOk result (Appends (O.bytes out.old) (O.bytes out.new) self.old.gathered.items) }
         ensures gathered { OnOk result (self.new.gathered.items ≡ []) }
-        ensures err { OnErr result (TakesPrefix (O.taken out.old) (O.taken out.new) self.old.gathered.items) }
+        ensures err { OnErr result (TakesPrefix (O.bytes out.old) (O.bytes out.new) self.old.gathered.items) }
         ensures session { self.new.session ≡ self.old.session }
         ensures refused { self.new.refused ≡ self.old.refused }
         ensures later { O.faults out.old ≤ O.faults out.new }

@@ -1,9 +1,9 @@
 //! Converting a time from UTC to TAI.
 
-ghost use Rattle.std.specs.Prelude.{◌≡◌, false, IfOk};
-ghost use Rattle.st_batch.specs.Commands.{begins_command};
-ghost use Rattle.st_batch.specs.Line.{TimeGives};
-ghost use Rattle.st_batch.specs.Session.{IsTruncated, SpellsSeconds};
+ghost use Rattle.std.specs.Prelude.{IfOk};
+ghost use Rattle.st_batch.specs.Seconds.{IsTruncated, SpellsSeconds};
+ghost use Rattle.st_batch.specs.Times.{TimeGives};
+ghost use Rattle.st_batch.specs.declared.job.Job.{Job};
 
 use crate::answer::Answer;
 use crate::fault::LineFault;
@@ -20,8 +20,7 @@ const MICROSECOND: i128 = 1_000_000_000_000;
 /// The answer of a text that is no command: TAI of the UTC time that it is, in seconds past J2000, by the table of
 /// leap seconds that the loaded kernels give.
 pub fn answer_time(alloc: Global, pool: &Pool, text: &[u8]) -> Result<Answer, OutOfMemory>
-    requires { begins_command text.now ≡ false }
-    ensures { IfOk result (TimeGives pool.now text.now) }
+    ensures { (job : Job) → IfOk result (TimeGives job pool.now text.now) }
 {
     let table = match read_table(alloc, pool) {
         Ok(table) => table,

@@ -55,39 +55,76 @@ pub enum LineFault {
     OutOfMemory,
 }
 
-impl From<OutOfMemory> for LineFault {
-    ghost use Rattle.st_batch.specs.declared.fault.LineFault.TheVariants as fault;
-
-    ghost from_gives = { λ _ e. e ≡ fault.OutOfMemory };
-
-    fn from(_error: OutOfMemory) -> LineFault {
-        LineFault::OutOfMemory
-    }
+/// Why the file of a name isn't loaded.
+#[derive(Clone, Copy, Debug, PartialEq, Eq)]
+pub enum KernelFault {
+    /// There is no file of that name.
+    NoFile,
+    /// The file could not be opened, or its read failed.
+    FileFault,
+    /// The file has more than 16,777,216 bytes.
+    FileTooLong,
+    /// The file is no text kernel: the line, from 1, and what breaks there.
+    KernelText { line: u64, cause: TextCause },
+    /// 1,000 kernels are loaded.
+    TooManyKernels,
+    /// The values of the loaded kernels and of this one are more than 2,000,000.
+    TooManyValues,
+    /// Memory was refused.
+    OutOfMemory,
 }
 
-impl From<TextFault> for LineFault {
-    ghost use Rattle.st_batch.specs.Load.{refusal_of_text};
+impl From<KernelFault> for LineFault {
+    ghost use Rattle.st_batch.specs.Load.{line_fault};
 
-    ghost from_gives = { λ fault e. e ≡ refusal_of_text fault };
+    ghost from_gives = { λ fault e. e ≡ line_fault fault };
 
-    fn from(fault: TextFault) -> LineFault {
+    fn from(fault: KernelFault) -> LineFault {
         match fault {
-            TextFault::At { line, cause } => LineFault::KernelText { line, cause },
-            TextFault::OutOfMemory => LineFault::OutOfMemory,
+            KernelFault::NoFile => LineFault::NoFile,
+            KernelFault::FileFault => LineFault::FileFault,
+            KernelFault::FileTooLong => LineFault::FileTooLong,
+            KernelFault::KernelText { line, cause } => LineFault::KernelText { line, cause },
+            KernelFault::TooManyKernels => LineFault::TooManyKernels,
+            KernelFault::TooManyValues => LineFault::TooManyValues,
+            KernelFault::OutOfMemory => LineFault::OutOfMemory,
         }
     }
 }
 
-impl From<LoadFault> for LineFault {
-    ghost use Rattle.st_batch.specs.Load.{refusal_of_load};
+impl From<OutOfMemory> for KernelFault {
+    ghost use Rattle.st_batch.specs.declared.fault.KernelFault.TheVariants as fault;
 
-    ghost from_gives = { λ fault e. e ≡ refusal_of_load fault };
+    ghost from_gives = { λ _ e. e ≡ fault.OutOfMemory };
 
-    fn from(fault: LoadFault) -> LineFault {
+    fn from(_error: OutOfMemory) -> KernelFault {
+        KernelFault::OutOfMemory
+    }
+}
+
+impl From<TextFault> for KernelFault {
+    ghost use Rattle.st_batch.specs.Load.{fault_of_text};
+
+    ghost from_gives = { λ fault e. e ≡ fault_of_text fault };
+
+    fn from(fault: TextFault) -> KernelFault {
         match fault {
-            LoadFault::TooManyKernels => LineFault::TooManyKernels,
-            LoadFault::TooManyValues => LineFault::TooManyValues,
-            LoadFault::OutOfMemory => LineFault::OutOfMemory,
+            TextFault::At { line, cause } => KernelFault::KernelText { line, cause },
+            TextFault::OutOfMemory => KernelFault::OutOfMemory,
+        }
+    }
+}
+
+impl From<LoadFault> for KernelFault {
+    ghost use Rattle.st_batch.specs.Load.{fault_of_pool};
+
+    ghost from_gives = { λ fault e. e ≡ fault_of_pool fault };
+
+    fn from(fault: LoadFault) -> KernelFault {
+        match fault {
+            LoadFault::TooManyKernels => KernelFault::TooManyKernels,
+            LoadFault::TooManyValues => KernelFault::TooManyValues,
+            LoadFault::OutOfMemory => KernelFault::OutOfMemory,
         }
     }
 }

@@ -1,18 +1,18 @@
 //! Answering the lines that are asked for.
 
-ghost use Rattle.std.specs.Prelude.{◌≡◌, ◌+◌, ◌≢◌, ◌≤◌, false, [], ◌∷◌, ◌++◌, length, MatchOption, OnOk, OnErr, IsErrOf};
-ghost use Rattle.std.specs.Io.KnownBytes.{IsAtEnd};
-ghost use Rattle.st_outside.specs.Causes.{AreLater, Rose, RoseBeyond};
+ghost use Rattle.std.specs.Prelude.{◌≡◌, ◌+◌, ◌≢◌, ◌≤◌, false, [], ◌∷◌, ◌++◌, length, MatchOption, IfOk, OnOk, OnErr, IsErrOf};
+ghost use Rattle.st_outside.specs.Causes.{Rose, RoseBeyond};
+ghost use Rattle.st_outside.specs.States.{FilesState, KeepsFiles};
 ghost use Rattle.st_text.specs.Lines as lines;
-ghost use Rattle.st_batch.specs.Outcome.{AnswersAll, HasNoFeed, Took};
-ghost use Rattle.st_batch.specs.Progress.{AnswersOne, CutsAtFeed, Finishes, FinishesWriting, Halts, IsOfLines, LinesEnd, Reads};
-ghost use Rattle.st_batch.specs.declared.job.Work.TheVariants.{Batch};
+ghost use Rattle.st_batch.specs.LinesSteps.{AnswersLine, CutsAtFeed, Finishes, FinishesWriting, StopsInText, ReadsText};
+ghost use Rattle.st_batch.specs.Outcome.{HasNoFeed, IsAnswered, LinesOutcome, Took};
+ghost use Rattle.st_batch.specs.WordsMachine.{work_of};
 
 use crate::answering::Answering;
 use crate::job::Work;
 use crate::session::Session;
 use crate::status::{Status, stopped_by};
-use st_decimal::OutOfMemory;
+use st_decimal::{Line, OutOfMemory};
 use st_outside::{Files, Sink, SinkFault, Source};
 use st_text::{line_end, without_cr};
 use std::alloc::Global;
@@ -27,36 +27,43 @@ const PIECE: usize = 65_536;
 pub fn answer_lines<F: Files, I: Source, O: Sink>(
     alloc: Global,
     session: Session,
-    work: &Work,
     files: &mut F,
     input: &mut I,
     out: &mut O,
 ) -> Status
-    ensures told { Took (O.taken out.old) (O.taken out.new) (λ bytes. LinesEnd
+    ensures told { (before : FilesState) → KeepsFiles before (F.state files.old)
+        → Took (O.bytes out.old) (O.bytes out.new) (LinesOutcome
         (record {
-          files = F.map files.old;
-          input = I.left input.old;
-          left = I.left input.new;
-          before = F.counts files.old;
-          now = F.counts files.new;
-        }) work.now session result bytes) }
-    ensures of_lines { IsOfLines result }
+          files = before;
+          files_after = F.state files.new;
+          input = I.state input.old;
+          input_after = I.state input.new;
+        }) session.job session.loaded result) }
     ensures write_fault { result ≡ Status.WriteFault → Rose (O.faults out.old) (O.faults out.new) }
-    ensures read_fault { result ≡ Status.ReadFault → Rose (I.faults input.old) (I.faults input.new) }
-    ensures too_long { result ≡ Status.InputTooLong → RoseBeyond 67108864 (I.taken input.old) (I.taken input.new) }
-    ensures whole { work.now ≡ Work.Batch → AnswersAll result → IsAtEnd (I.left input.new) }
-    ensures short { AnswersAll result → I.taken input.new ≤ I.taken input.old + 67108864 }
-    ensures left { work.now ≢ Work.Batch → I.left input.new ≡ I.left input.old }
-    ensures taken { work.now ≢ Work.Batch → I.taken input.new ≡ I.taken input.old }
-    ensures faults { work.now ≢ Work.Batch → I.faults input.new ≡ I.faults input.old }
-    ensures closed { F.opened files.old ≡ false → F.opened files.new ≡ false }
-    ensures map { F.map files.new ≡ F.map files.old }
-    ensures later { AreLater (F.counts files.old) (F.counts files.new) }
+    ensures read_fault { result ≡ Status.ReadFault → Rose (I.state input.old).faults (I.state input.new).faults }
+    ensures too_long { result ≡ Status.InputTooLong → RoseBeyond 67108864 (I.state input.old).taken (I.state input.new).taken }
+    ensures short { IsAnswered result → (I.state input.new).taken ≤ (I.state input.old).taken + 67108864 }
+    ensures unread { session.job.work ≢ Work.Batch → I.state input.new ≡ I.state input.old }
+    ensures files { KeepsFiles (F.state files.old) (F.state files.new) }
 {
+    let line = match given_line(alloc, &session.job().work) {
+        Ok(line) => line,
+        Err(_) => return Status::OutOfMemory,
+    };
     let mut answering = Answering::new(alloc, session);
+    match line {
+        Some(line) => answer_one(&mut answering, line.as_slice(), files, out),
+        None => answer_input(&mut answering, files, input, out),
+    }
+}
+
+/// The one line that is to be answered, where the words give it: the session keeps its own.
+fn given_line(alloc: Global, work: &Work) -> Result<Option<Line>, OutOfMemory>
+    ensures { IfOk result (λ line. work.now ≡ work_of line) }
+{
     match work {
-        Work::Time(text) => answer_one(&mut answering, text.as_slice(), files, out),
-        Work::Batch => answer_input(&mut answering, files, input, out),
+        Work::Time(text) => Ok(Some(Line::from_slice(alloc, text.as_slice())?)),
+        Work::Batch => Ok(None),
     }
 }
 
@@ -69,23 +76,20 @@ fn answer_input<F: Files, I: Source, O: Sink>(
 ) -> Status
     requires gathered { answering.old.gathered.items ≡ [] }
     requires refused { answering.old.refused ≡ false }
-    ensures told { Took (O.taken out.old) (O.taken out.new) (λ bytes. LinesEnd
+    requires batch { answering.old.session.job.work ≡ Work.Batch }
+    ensures told { (before : FilesState) → KeepsFiles before (F.state files.old)
+        → Took (O.bytes out.old) (O.bytes out.new) (LinesOutcome
         (record {
-          files = F.map files.old;
-          input = I.left input.old;
-          left = I.left input.new;
-          before = F.counts files.old;
-          now = F.counts files.new;
-        }) Batch answering.old.session result bytes) }
-    ensures of_lines { IsOfLines result }
+          files = before;
+          files_after = F.state files.new;
+          input = I.state input.old;
+          input_after = I.state input.new;
+        }) answering.old.session.job answering.old.session.loaded result) }
     ensures write_fault { result ≡ Status.WriteFault → Rose (O.faults out.old) (O.faults out.new) }
-    ensures read_fault { result ≡ Status.ReadFault → Rose (I.faults input.old) (I.faults input.new) }
-    ensures too_long { result ≡ Status.InputTooLong → RoseBeyond 67108864 (I.taken input.old) (I.taken input.new) }
-    ensures whole { AnswersAll result → IsAtEnd (I.left input.new) }
-    ensures short { AnswersAll result → I.taken input.new ≤ I.taken input.old + 67108864 }
-    ensures closed { F.opened files.old ≡ false → F.opened files.new ≡ false }
-    ensures map { F.map files.new ≡ F.map files.old }
-    ensures later { AreLater (F.counts files.old) (F.counts files.new) }
+    ensures read_fault { result ≡ Status.ReadFault → Rose (I.state input.old).faults (I.state input.new).faults }
+    ensures too_long { result ≡ Status.InputTooLong → RoseBeyond 67108864 (I.state input.old).taken (I.state input.new).taken }
+    ensures short { IsAnswered result → (I.state input.new).taken ≤ (I.state input.old).taken + 67108864 }
+    ensures files { KeepsFiles (F.state files.old) (F.state files.new) }
 {
     let mut begun = Vec::new(answering.alloc);
     let mut piece = [0u8; PIECE];
@@ -116,13 +120,11 @@ fn answer_last<F: Files, O: Sink>(
     out: &mut O,
 ) -> Status
     requires { HasNoFeed begun.now }
-    ensures finished { Finishes (F.map files.old)
-        (record { counts = F.counts files.old; taken = O.taken out.old; answering = answering.old })
-        (F.counts files.new) (O.taken out.new) (lines.lines_of begun.now) result }
+    ensures finished { Finishes
+        (record { files = F.state files.old; taken = O.bytes out.old; answering = answering.old })
+        (F.state files.new) (O.bytes out.new) (lines.lines_of begun.now) result }
     ensures write_fault { result ≡ Status.WriteFault → Rose (O.faults out.old) (O.faults out.new) }
-    ensures closed { F.opened files.old ≡ false → F.opened files.new ≡ false }
-    ensures map { F.map files.new ≡ F.map files.old }
-    ensures later { AreLater (F.counts files.old) (F.counts files.new) }
+    ensures files { KeepsFiles (F.state files.old) (F.state files.new) }
 {
     if begun.is_empty() {
         finish(answering, out)
@@ -138,13 +140,11 @@ fn answer_one<F: Files, O: Sink>(
     files: &mut F,
     out: &mut O,
 ) -> Status
-    ensures finished { Finishes (F.map files.old)
-        (record { counts = F.counts files.old; taken = O.taken out.old; answering = answering.old })
-        (F.counts files.new) (O.taken out.new) (line.now ∷ []) result }
+    ensures finished { Finishes
+        (record { files = F.state files.old; taken = O.bytes out.old; answering = answering.old })
+        (F.state files.new) (O.bytes out.new) (line.now ∷ []) result }
     ensures write_fault { result ≡ Status.WriteFault → Rose (O.faults out.old) (O.faults out.new) }
-    ensures closed { F.opened files.old ≡ false → F.opened files.new ≡ false }
-    ensures map { F.map files.new ≡ F.map files.old }
-    ensures later { AreLater (F.counts files.old) (F.counts files.new) }
+    ensures files { KeepsFiles (F.state files.old) (F.state files.new) }
 {
     match answering.answer(line, files) {
         Ok(()) => finish(answering, out),
@@ -154,7 +154,7 @@ fn answer_one<F: Files, O: Sink>(
 
 /// Writes what is gathered when all lines are answered, and says how the run ended.
 fn finish<O: Sink>(answering: &mut Answering, out: &mut O) -> Status
-    ensures finished { FinishesWriting (O.taken out.old) (O.taken out.new) answering.old result }
+    ensures finished { FinishesWriting (O.bytes out.old) (O.bytes out.new) answering.old result }
     ensures write_fault { result ≡ Status.WriteFault → Rose (O.faults out.old) (O.faults out.new) }
 {
     match answering.write(out) {
@@ -173,19 +173,17 @@ fn answer_piece<F: Files, O: Sink>(
     out: &mut O,
 ) -> Result<(), SinkFault>
     requires { HasNoFeed begun.old.items }
-    ensures ok { OnOk result (Reads (F.map files.old)
-        (record { counts = F.counts files.old; taken = O.taken out.old; answering = answering.old })
-        (record { counts = F.counts files.new; taken = O.taken out.new; answering = answering.new })
+    ensures ok { OnOk result (ReadsText
+        (record { files = F.state files.old; taken = O.bytes out.old; answering = answering.old })
+        (record { files = F.state files.new; taken = O.bytes out.new; answering = answering.new })
         begun.old.items piece.now begun.new.items) }
     ensures gathered { OnOk result (answering.new.gathered.items ≡ []) }
-    ensures err { OnErr result (Halts (F.map files.old)
-        (record { counts = F.counts files.old; taken = O.taken out.old; answering = answering.old })
-        (F.counts files.new) (O.taken out.new) begun.old.items piece.now) }
+    ensures err { OnErr result (StopsInText
+        (record { files = F.state files.old; taken = O.bytes out.old; answering = answering.old })
+        (F.state files.new) (O.bytes out.new) begun.old.items piece.now) }
     ensures output { O.faults out.old ≤ O.faults out.new }
     ensures cause { IsErrOf result SinkFault.Failed → Rose (O.faults out.old) (O.faults out.new) }
-    ensures closed { F.opened files.old ≡ false → F.opened files.new ≡ false }
-    ensures map { F.map files.new ≡ F.map files.old }
-    ensures later { AreLater (F.counts files.old) (F.counts files.new) }
+    ensures files { KeepsFiles (F.state files.old) (F.state files.new) }
 {
     let mut rest = piece;
     while let Some((end, behind)) = ended_line(rest) {
@@ -217,18 +215,16 @@ fn answer_ended<F: Files, O: Sink>(
 ) -> Result<(), SinkFault>
     requires begun { HasNoFeed begun.old.items }
     requires end { HasNoFeed end.now }
-    ensures ok { OnOk result (Reads (F.map files.old)
-        (record { counts = F.counts files.old; taken = O.taken out.old; answering = answering.old })
-        (record { counts = F.counts files.new; taken = O.taken out.new; answering = answering.new })
+    ensures ok { OnOk result (ReadsText
+        (record { files = F.state files.old; taken = O.bytes out.old; answering = answering.old })
+        (record { files = F.state files.new; taken = O.bytes out.new; answering = answering.new })
         begun.old.items (end.now ++ (10 ∷ [])) begun.new.items) }
-    ensures err { OnErr result (Halts (F.map files.old)
-        (record { counts = F.counts files.old; taken = O.taken out.old; answering = answering.old })
-        (F.counts files.new) (O.taken out.new) begun.old.items (end.now ++ (10 ∷ []))) }
+    ensures err { OnErr result (StopsInText
+        (record { files = F.state files.old; taken = O.bytes out.old; answering = answering.old })
+        (F.state files.new) (O.bytes out.new) begun.old.items (end.now ++ (10 ∷ []))) }
     ensures output { O.faults out.old ≤ O.faults out.new }
     ensures cause { IsErrOf result SinkFault.Failed → Rose (O.faults out.old) (O.faults out.new) }
-    ensures closed { F.opened files.old ≡ false → F.opened files.new ≡ false }
-    ensures map { F.map files.new ≡ F.map files.old }
-    ensures later { AreLater (F.counts files.old) (F.counts files.new) }
+    ensures files { KeepsFiles (F.state files.old) (F.state files.new) }
 {
     gather_ended(answering, begun, end, files)?;
     answering.write_enough(out)
@@ -242,12 +238,10 @@ fn gather_ended<F: Files>(
     end: &[u8],
     files: &mut F,
 ) -> Result<(), OutOfMemory>
-    ensures ok { OnOk result (AnswersOne (F.map files.old) (F.counts files.old) (F.counts files.new)
+    ensures ok { OnOk result (AnswersLine (F.state files.old) (F.state files.new)
         answering.old answering.new (lines.without_cr (begun.old.items ++ end.now))) }
     ensures begun { OnOk result (begun.new.items ≡ []) }
-    ensures closed { F.opened files.old ≡ false → F.opened files.new ≡ false }
-    ensures map { F.map files.new ≡ F.map files.old }
-    ensures later { AreLater (F.counts files.old) (F.counts files.new) }
+    ensures files { KeepsFiles (F.state files.old) (F.state files.new) }
 {
     if begun.is_empty() {
         return answering.answer(without_cr(end), files);

@@ -1,6 +1,6 @@
 //! Laws of the definitions by which `run` is told. Each function does nothing; its contract is the law.
 
-ghost use Rattle.st_batch.specs.Laws.{EveryBeginningGoesOn, EveryLineHasAnswer, GoodRunIsAnswered, OneAnswer, OneEnding, OneOutput};
+ghost use Rattle.st_batch.specs.Laws.{EveryBeginningGoesOn, EveryLineHasAnswer, EveryLoadingGives, GoodRunIsAnswered, OneAnswer, OneEnding, OneLoading, OneOutput};
 
 /// Where the files and the input tell their bytes and the files had no fault there is at most one whole output, so that
 /// `run`, where it isn't cut off, is then a function of the words, the files and the input.
@@ -18,6 +18,17 @@ pub fn every_line_has_an_answer()
 /// limits is loaded, unless a fault of the files is named.
 pub fn one_answer()
     ensures { OneAnswer }
+{}
+
+/// Every loading gives a loaded list, or a refusal that names no fault of the files.
+pub fn every_loading_gives()
+    ensures { EveryLoadingGives }
+{}
+
+/// Where the files tell their bytes a loading gives at most one thing, unless it names a fault of the files: one loaded list,
+/// or one refusal. So a setup, too, gives one thing.
+pub fn one_loading()
+    ensures { OneLoading }
 {}
 
 /// Answers to some first lines go on to answers to all lines, so that what was written of a run that was cut off begins

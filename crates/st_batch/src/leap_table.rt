@@ -1,9 +1,8 @@
 //! The table of leap seconds that the loaded kernels give.
 
 ghost use Rattle.std.specs.Prelude.{◌≡◌, ◌≤◌, [], ◌∷◌, ◌++◌, length, Some, MatchOption, IfOk, IfSome, OnOk, IsErrOf, List};
-ghost use Rattle.st_batch.specs.LeapSeconds.{GiveTable};
+ghost use Rattle.st_batch.specs.LeapSeconds.{GiveTable, HaveNoTable};
 ghost use Rattle.st_batch.specs.LeapTable.{IsPair, IsTableOf, PairUp};
-ghost use Rattle.st_batch.specs.Session.{HaveNoTable};
 ghost use Rattle.st_batch.specs.declared.leap_seconds.LeapPair.{LeapPair};
 
 use crate::leap_seconds::{LeapPair, MAX_COUNT, MAX_PAIRS, is_table};

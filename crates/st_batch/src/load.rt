@@ -1,12 +1,14 @@
 //! Loading a file by its name.
 
-ghost use Rattle.std.specs.Prelude.{◌≡◌, ◌≤◌, true, false, length, Ok, IfOk, IfErr, OnOk, OnErr};
+ghost use Rattle.std.specs.Prelude.{◌≡◌, ◌≢◌, ◌≤◌, true, false, length, Ok, Err, IfOk, IfErr, OnOk, OnErr};
 ghost use Rattle.st_outside.specs.Causes.{AreLater};
-ghost use Rattle.st_batch.specs.Causes.{IsLoadCaused};
-ghost use Rattle.st_batch.specs.Load.{HasFile, IsRest, LoadGives, LoadRefuses};
-ghost use Rattle.st_batch.specs.LoadMachine.{BytesLoad, BytesRefuse, ReadRefuses, RestRefuses};
+ghost use Rattle.st_outside.specs.States.{KeepsFiles};
+ghost use Rattle.st_batch.specs.Causes.{IsCaused};
+ghost use Rattle.st_batch.specs.Load.{BytesGive, HasFile, LoadGives, line_fault};
+ghost use Rattle.st_batch.specs.LoadSteps.{BytesRefuse, IsRest, RestRefuses};
+ghost use Rattle.st_batch.specs.Setting.{Loaded};
 
-use crate::fault::LineFault;
+use crate::fault::KernelFault;
 use st_kernel_text::read_kernel;
 use st_outside::{Files, OpenFault};
 use st_pool::Pool;
@@ -28,23 +30,22 @@ pub fn load_file<F: Files>(
     pool: &mut Pool,
     name: &[u8],
     files: &mut F,
-) -> Result<(), LineFault>
-    ensures ok { OnOk result (LoadGives (F.map files.old) pool.old name.now (Ok pool.new)) }
-    ensures err { IfErr result (LoadRefuses (F.map files.old) pool.old name.now) }
+) -> Result<(), KernelFault>
+    ensures ok { OnOk result (LoadGives (F.state files.old).map pool.old name.now (Ok pool.new)) }
+    ensures err { IfErr result (λ fault. fault ≢ KernelFault.OutOfMemory → LoadGives (F.state files.old).map pool.old name.now (Err fault)) }
     ensures refused { OnErr result (pool.new ≡ pool.old) }
-    ensures cause { IfErr result (λ fault. IsLoadCaused fault (F.counts files.old) (F.counts files.new)) }
-    ensures closed { F.opened files.new ≡ false }
-    ensures map { F.map files.new ≡ F.map files.old }
-    ensures later { AreLater (F.counts files.old) (F.counts files.new) }
+    ensures cause { IfErr result (λ fault. IsCaused (line_fault fault) (F.state files.old).counts (F.state files.new).counts) }
+    ensures closed { (F.state files.new).opened ≡ false }
+    ensures files { KeepsFiles (F.state files.old) (F.state files.new) }
 {
     let bytes = read_file(alloc, name, files)?;
     load_bytes(alloc, pool, name, bytes.as_slice())
 }
 
 /// Loads the bytes of a file behind all kernels of the pool, under this name.
-fn load_bytes(alloc: Global, pool: &mut Pool, name: &[u8], bytes: &[u8]) -> Result<(), LineFault>
-    ensures ok { OnOk result (BytesLoad bytes.now pool.old name.now pool.new) }
-    ensures err { IfErr result (BytesRefuse bytes.now pool.old) }
+fn load_bytes(alloc: Global, pool: &mut Pool, name: &[u8], bytes: &[u8]) -> Result<(), KernelFault>
+    ensures ok { OnOk result (BytesGive bytes.now pool.old name.now (Ok pool.new)) }
+    ensures err { IfErr result (BytesRefuse bytes.now pool.old name.now) }
     ensures refused { OnErr result (pool.new ≡ pool.old) }
 {
     let assignments = read_kernel(alloc, bytes)?;
@@ -53,20 +54,20 @@ fn load_bytes(alloc: Global, pool: &mut Pool, name: &[u8], bytes: &[u8]) -> Resu
 }
 
 /// The bytes of the file of this name, which has at most `MAX_FILE`. No file is open afterwards.
-pub fn read_file<F: Files>(alloc: Global, name: &[u8], files: &mut F) -> Result<Vec<u8>, LineFault>
-    ensures ok { IfOk result (λ bytes. HasFile (F.map files.old) name.now bytes.items) }
+fn read_file<F: Files>(alloc: Global, name: &[u8], files: &mut F) -> Result<Vec<u8>, KernelFault>
+    ensures ok { IfOk result (λ bytes. HasFile (F.state files.old).map name.now bytes.items) }
     ensures few { IfOk result (λ bytes. length bytes.items ≤ 16777216) }
-    ensures err { IfErr result (ReadRefuses (F.map files.old) name.now) }
-    ensures cause { IfErr result (λ fault. IsLoadCaused fault (F.counts files.old) (F.counts files.new)) }
-    ensures closed { F.opened files.new ≡ false }
-    ensures map { F.map files.new ≡ F.map files.old }
-    ensures later { AreLater (F.counts files.old) (F.counts files.new) }
+    ensures err { IfErr result (λ fault. fault ≢ KernelFault.OutOfMemory
+        → (loaded : Loaded) → LoadGives (F.state files.old).map loaded name.now (Err fault)) }
+    ensures cause { IfErr result (λ fault. IsCaused (line_fault fault) (F.state files.old).counts (F.state files.new).counts) }
+    ensures closed { (F.state files.new).opened ≡ false }
+    ensures files { KeepsFiles (F.state files.old) (F.state files.new) }
 {
     if let Err(fault) = files.open(name) {
         return Err(match fault {
-            OpenFault::Missing => LineFault::NoFile,
-            OpenFault::Failed => LineFault::FileFault,
-            OpenFault::OutOfMemory => LineFault::OutOfMemory,
+            OpenFault::Missing => KernelFault::NoFile,
+            OpenFault::Failed => KernelFault::FileFault,
+            OpenFault::OutOfMemory => KernelFault::OutOfMemory,
         });
     }
     let bytes = read_open(alloc, files);
@@ -75,15 +76,15 @@ pub fn read_file<F: Files>(alloc: Global, name: &[u8], files: &mut F) -> Result<
 }
 
 /// The rest of the open file, which has at most `MAX_FILE` bytes.
-fn read_open<F: Files>(alloc: Global, files: &mut F) -> Result<Vec<u8>, LineFault>
-    requires { F.opened files.old ≡ true }
-    ensures ok { IfOk result (λ bytes. IsRest (F.left files.old) bytes.items) }
+fn read_open<F: Files>(alloc: Global, files: &mut F) -> Result<Vec<u8>, KernelFault>
+    requires { (F.state files.old).opened ≡ true }
+    ensures ok { IfOk result (λ bytes. IsRest (F.state files.old).left bytes.items) }
     ensures few { IfOk result (λ bytes. length bytes.items ≤ 16777216) }
-    ensures err { IfErr result (RestRefuses (F.left files.old)) }
-    ensures cause { IfErr result (λ fault. IsLoadCaused fault (F.counts files.old) (F.counts files.new)) }
-    ensures map { F.map files.new ≡ F.map files.old }
-    ensures misses { (F.counts files.new).misses ≡ (F.counts files.old).misses }
-    ensures later { AreLater (F.counts files.old) (F.counts files.new) }
+    ensures err { IfErr result (RestRefuses (F.state files.old).left) }
+    ensures cause { IfErr result (λ fault. IsCaused (line_fault fault) (F.state files.old).counts (F.state files.new).counts) }
+    ensures map { (F.state files.new).map ≡ (F.state files.old).map }
+    ensures misses { (F.state files.new).counts.misses ≡ (F.state files.old).counts.misses }
+    ensures later { AreLater (F.state files.old).counts (F.state files.new).counts }
 {
     let mut bytes = Vec::new(alloc);
     let mut buf = [0u8; PIECE];
@@ -91,8 +92,8 @@ fn read_open<F: Files>(alloc: Global, files: &mut F) -> Result<Vec<u8>, LineFaul
         match files.read(&mut buf) {
             Ok(0) => return Ok(bytes),
             Ok(count) => bytes.extend_from_slice(&buf[..count])?,
-            Err(_) => return Err(LineFault::FileFault),
+            Err(_) => return Err(KernelFault::FileFault),
         }
     }
-    Err(LineFault::FileTooLong)
+    Err(KernelFault::FileTooLong)
 }

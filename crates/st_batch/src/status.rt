@@ -1,7 +1,7 @@
 //! How a run ended.
 
 ghost use Rattle.std.specs.Prelude.{◌≡◌};
-ghost use Rattle.st_batch.specs.Progress as progress;
+ghost use Rattle.st_batch.specs.LinesSteps as lines;
 ghost use Rattle.st_batch.specs.Texts.{code_of};
 
 use crate::fault::{LineFault, WordFault};
@@ -48,7 +48,7 @@ impl Status {
 
 /// How a run ends that a fault of the output or want of memory cut off.
 pub fn stopped_by(fault: SinkFault) -> Status
-    ensures { result ≡ progress.stopped_by fault }
+    ensures { result ≡ lines.stopped_by fault }
 {
     match fault {
         SinkFault::Failed => Status::WriteFault,

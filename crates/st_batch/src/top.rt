@@ -1,17 +1,15 @@
 //! The whole run: from the words to the output.
 
-ghost use Rattle.std.specs.Prelude.{◌≡◌, ◌≤◌, ◌+◌, ◌≢◌, ℕ, List, false, map, string_bytes, codes, [], ◌∷◌, ◌++◌};
-ghost use Rattle.std.specs.Io.KnownBytes.{IsAtEnd};
+ghost use Rattle.std.specs.Prelude.{◌≡◌, ◌≤◌, ◌+◌, ◌≢◌, ℕ, List, Ok, Err, false, map, string_bytes};
 ghost use Rattle.st_outside.specs.Causes.{Rose, RoseBeyond};
-ghost use Rattle.st_batch.specs.Causes.{IsStatusCaused};
-ghost use Rattle.st_batch.specs.Outcome.{AnswersAll, Outside, Outcome, ReadsAll, ReadsNothing, Took};
+ghost use Rattle.st_outside.specs.States.{KeepsFiles};
+ghost use Rattle.st_batch.specs.Outcome.{IsAnswered, Outcome, ReadsNothing, Took};
+ghost use Rattle.st_batch.specs.OutputSteps.{Delivers, IsCut};
 ghost use Rattle.st_batch.specs.Texts as texts;
-ghost use Rattle.st_batch.specs.Words.{AskFor, AskForNone};
-ghost use Rattle.st_batch.specs.Written.{Delivers, ReadsNone, IsCut, IsOfJob, WordsFit};
-ghost use Rattle.st_batch.specs.declared.job.Work.TheVariants.{Batch};
-ghost use Rattle.st_batch.specs.declared.status.Status.TheVariants.{BadSetup};
+ghost use Rattle.st_batch.specs.Words.{WordsGive};
+ghost use Rattle.st_batch.specs.declared.status.Status.TheVariants.{BadSetup, BadWords};
 
-use crate::answer::put_refused;
+use crate::answer::{put_refused, put_words_refused};
 use crate::fault::{LineFault, WordFault};
 use crate::input::answer_lines;
 use crate::job::Job;
@@ -35,86 +33,80 @@ pub fn run<F: Files, I: Source, O: Sink>(
     input: &mut I,
     out: &mut O,
 ) -> Status
-    ensures told { Took (O.taken out.old) (O.taken out.new) (Outcome
+    ensures told { Took (O.bytes out.old) (O.bytes out.new) (Outcome
         (record {
-          files = F.map files.old;
-          input = I.left input.old;
-          left = I.left input.new;
-          before = F.counts files.old;
-          now = F.counts files.new;
+          files = F.state files.old;
+          files_after = F.state files.new;
+          input = I.state input.old;
+          input_after = I.state input.new;
         }) (map string_bytes words.now) result) }
 
-    // The words are refused exactly where they ask for no conversion, unless the line that says so was cut off.
-    ensures words { WordsFit result (AskForNone (map string_bytes words.now)) }
-
-    // A refused setup and an end by a fault have their cause, whether bytes are told or not.
-    ensures causes { IsStatusCaused result (F.counts files.old) (F.counts files.new) }
+    // An end by a fault has its cause, whether bytes are told or not.
     ensures write_fault { result ≡ Status.WriteFault → Rose (O.faults out.old) (O.faults out.new) }
-    ensures read_fault { result ≡ Status.ReadFault → Rose (I.faults input.old) (I.faults input.new) }
-    ensures too_long { result ≡ Status.InputTooLong → RoseBeyond 67108864 (I.taken input.old) (I.taken input.new) }
+    ensures read_fault { result ≡ Status.ReadFault → Rose (I.state input.old).faults (I.state input.new).faults }
+    ensures too_long { result ≡ Status.InputTooLong → RoseBeyond 67108864 (I.state input.old).taken (I.state input.new).taken }
 
-    // The input is read to its end where its lines were answered, and not at all where there were none to answer.
-    ensures whole { ReadsAll (map string_bytes words.now) result → IsAtEnd (I.left input.new) }
-    ensures short { AnswersAll result → I.taken input.new ≤ I.taken input.old + 67108864 }
-    ensures left { ReadsNothing (map string_bytes words.now) result → I.left input.new ≡ I.left input.old }
-    ensures taken { ReadsNothing (map string_bytes words.now) result → I.taken input.new ≡ I.taken input.old }
-    ensures faults { ReadsNothing (map string_bytes words.now) result → I.faults input.new ≡ I.faults input.old }
+    // The input is not read further than it may be, and not at all where there are no lines of it to answer.
+    ensures short { IsAnswered result → (I.state input.new).taken ≤ (I.state input.old).taken + 67108864 }
+    ensures unread { ReadsNothing (map string_bytes words.now) result → I.state input.new ≡ I.state input.old }
 
-    ensures closed { F.opened files.old ≡ false → F.opened files.new ≡ false }
-    ensures map { F.map files.new ≡ F.map files.old }
+    ensures files { KeepsFiles (F.state files.old) (F.state files.new) }
 {
     match read_words(alloc, words) {
-        Ok(job) => run_job(alloc, &job, files, input, out),
-        Err(WordFault::NotBuilt) => deliver(
-            out,
-            b"bad words NOT_BUILT\n",
-            Status::BadWords(WordFault::NotBuilt),
-        ),
+        Ok(job) => run_job(alloc, job, files, input, out),
         Err(WordFault::OutOfMemory) => Status::OutOfMemory,
+        Err(fault) => refuse_words(alloc, fault, out),
     }
 }
 
 /// Loads the setup and answers the lines.
 fn run_job<F: Files, I: Source, O: Sink>(
     alloc: Global,
-    job: &Job,
+    job: Job,
     files: &mut F,
     input: &mut I,
     out: &mut O,
 ) -> Status
-    ensures told { (words : List (List ℕ)) → AskFor words job.now → Took (O.taken out.old) (O.taken out.new) (Outcome
+    ensures told { (words : List (List ℕ)) → WordsGive words (Ok job) → Took (O.bytes out.old) (O.bytes out.new) (Outcome
         (record {
-          files = F.map files.old;
-          input = I.left input.old;
-          left = I.left input.new;
-          before = F.counts files.old;
-          now = F.counts files.new;
+          files = F.state files.old;
+          files_after = F.state files.new;
+          input = I.state input.old;
+          input_after = I.state input.new;
         }) words result) }
-    ensures of_job { IsOfJob result }
-    ensures causes { IsStatusCaused result (F.counts files.old) (F.counts files.new) }
     ensures write_fault { result ≡ Status.WriteFault → Rose (O.faults out.old) (O.faults out.new) }
-    ensures read_fault { result ≡ Status.ReadFault → Rose (I.faults input.old) (I.faults input.new) }
-    ensures too_long { result ≡ Status.InputTooLong → RoseBeyond 67108864 (I.taken input.old) (I.taken input.new) }
-    ensures whole { job.now.work ≡ Batch → AnswersAll result → IsAtEnd (I.left input.new) }
-    ensures short { AnswersAll result → I.taken input.new ≤ I.taken input.old + 67108864 }
-    ensures left { ReadsNone job.now result → I.left input.new ≡ I.left input.old }
-    ensures taken { ReadsNone job.now result → I.taken input.new ≡ I.taken input.old }
-    ensures faults { ReadsNone job.now result → I.faults input.new ≡ I.faults input.old }
-    ensures closed { F.opened files.old ≡ false → F.opened files.new ≡ false }
-    ensures map { F.map files.new ≡ F.map files.old }
+    ensures read_fault { result ≡ Status.ReadFault → Rose (I.state input.old).faults (I.state input.new).faults }
+    ensures too_long { result ≡ Status.InputTooLong → RoseBeyond 67108864 (I.state input.old).taken (I.state input.new).taken }
+    ensures short { IsAnswered result → (I.state input.new).taken ≤ (I.state input.old).taken + 67108864 }
+    ensures unread { (words : List (List ℕ)) → WordsGive words (Ok job) → ReadsNothing words result → I.state input.new ≡ I.state input.old }
+    ensures files { KeepsFiles (F.state files.old) (F.state files.new) }
 {
-    match Session::begin(alloc, job.setup.as_slice(), files) {
-        Ok(session) => answer_lines(alloc, session, &job.work, files, input, out),
+    match Session::open(alloc, job, files) {
+        Ok(session) => answer_lines(alloc, session, files, input, out),
         Err(LineFault::OutOfMemory) => Status::OutOfMemory,
         Err(fault) => refuse_setup(alloc, fault, out),
+    }
+}
+
+/// Writes why the words were refused.
+fn refuse_words<O: Sink>(alloc: Global, fault: WordFault, out: &mut O) -> Status
+    requires { fault ≢ WordFault.OutOfMemory }
+    ensures delivers { Delivers (texts.words_line fault) (BadWords fault) (O.bytes out.old) (O.bytes out.new) result }
+    // What is required, for the caller's proof.
+    ensures not_memory { fault ≢ WordFault.OutOfMemory }
+    ensures write_fault { result ≡ Status.WriteFault → Rose (O.faults out.old) (O.faults out.new) }
+{
+    let mut line = Vec::new(alloc);
+    match put_words_refused(&mut line, fault) {
+        Ok(()) => deliver(out, line.as_slice(), Status::BadWords(fault)),
+        Err(_) => Status::OutOfMemory,
     }
 }
 
 /// Writes why the setup was refused.
 fn refuse_setup<O: Sink>(alloc: Global, fault: LineFault, out: &mut O) -> Status
     requires { fault ≢ LineFault.OutOfMemory }
-    ensures delivers { Delivers (codes "bad setup " ++ (texts.refusal_text fault ++ (10 ∷ []))) (BadSetup fault)
-        (O.taken out.old) (O.taken out.new) result }
+    ensures delivers { Delivers (texts.setup_line fault) (BadSetup fault) (O.bytes out.old) (O.bytes out.new) result }
     // What is required, for the caller's proof.
     ensures not_memory { fault ≢ LineFault.OutOfMemory }
     ensures write_fault { result ≡ Status.WriteFault → Rose (O.faults out.old) (O.faults out.new) }
@@ -129,7 +121,7 @@ fn refuse_setup<O: Sink>(alloc: Global, fault: LineFault, out: &mut O) -> Status
 /// Writes the whole output of a run and ends it so, unless the output or want of memory cuts it off.
 fn deliver<O: Sink>(out: &mut O, output: &[u8], status: Status) -> Status
     requires { IsCut status → ⊥ }
-    ensures delivers { Delivers output.now status (O.taken out.old) (O.taken out.new) result }
+    ensures delivers { Delivers output.now status (O.bytes out.old) (O.bytes out.new) result }
     ensures write_fault { result ≡ Status.WriteFault → Rose (O.faults out.old) (O.faults out.new) }
 {
     match write_all(out, output) {

@@ -1,7 +1,7 @@
 //! The words of the program.
 
-ghost use Rattle.std.specs.Prelude.{◌≡◌, ◌&&◌, IfOk, IsErrOf, map, string_bytes, option_map, option_copied};
-ghost use Rattle.st_batch.specs.Words.{AskFor, AskForNone};
+ghost use Rattle.std.specs.Prelude.{◌≡◌, ◌&&◌, ◌≢◌, IfOk, IfErr, Ok, Err, map, string_bytes, option_map, option_copied};
+ghost use Rattle.st_batch.specs.Words.{WordsGive};
 ghost use Rattle.st_batch.specs.WordsMachine as machine;
 
 use crate::command::MAX_NAME;
@@ -12,8 +12,8 @@ use std::alloc::Global;
 
 /// What the words ask for, or that they have another shape.
 pub fn read_words(alloc: Global, words: &[String]) -> Result<Job, WordFault>
-    ensures ok { IfOk result (AskFor (map string_bytes words.now)) }
-    ensures not_built { IsErrOf result WordFault.NotBuilt → AskForNone (map string_bytes words.now) }
+    ensures ok { IfOk result (λ job. WordsGive (map string_bytes words.now) (Ok job)) }
+    ensures err { IfErr result (λ fault. fault ≢ WordFault.OutOfMemory → WordsGive (map string_bytes words.now) (Err fault)) }
 {
     match asked(words) {
         Some((setup, time)) => Ok(make_job(alloc, setup, time)?),

@@ -3,14 +3,14 @@
 ghost use Rattle.std.specs.Prelude.{◌≡◌, ◌≤◌, OnOk, OnErr, IsErrOf};
 ghost use Rattle.std.specs.Io.KnownBytes.{Appends};
 ghost use Rattle.st_outside.specs.Causes.{Rose};
-ghost use Rattle.st_batch.specs.Taken.{TakesPrefix};
+ghost use Rattle.st_batch.specs.OutputSteps.{TakesPrefix};
 
 use st_outside::{Sink, SinkFault};
 
 /// Writes all bytes, in as many pieces as the sink takes. After a fault a beginning of them was taken.
 pub fn write_all<O: Sink>(out: &mut O, bytes: &[u8]) -> Result<(), SinkFault>
-    ensures ok { OnOk result (Appends (O.taken out.old) (O.taken out.new) bytes.now) }
-    ensures err { OnErr result (TakesPrefix (O.taken out.old) (O.taken out.new) bytes.now) }
+    ensures ok { OnOk result (Appends (O.bytes out.old) (O.bytes out.new) bytes.now) }
+    ensures err { OnErr result (TakesPrefix (O.bytes out.old) (O.bytes out.new) bytes.now) }
     ensures later { O.faults out.old ≤ O.faults out.new }
     ensures cause { IsErrOf result SinkFault.Failed → Rose (O.faults out.old) (O.faults out.new) }
 {

@@ -5,12 +5,12 @@ use Rattle.st_batch.proofs.load.read_open.Given as goal
 
 abbrev pub invariant-loop-buf : goal.invariant-loop-buf
 invariant-loop-buf g l = record {
-  opened : g.F.Files.opened l.files ≡ true;
-  map : g.F.Files.map l.files ≡ g.F.Files.map l.fn.files;
-  misses : (g.F.Files.counts l.files).misses ≡ (g.F.Files.counts l.fn.files).misses;
-  later : AreLater (g.F.Files.counts l.fn.files) (g.F.Files.counts l.files);
-  taken : RoseBy (length l.bytes.items) (g.F.Files.counts l.fn.files).taken (g.F.Files.counts l.files).taken;
-  consumed : Consumes (g.F.Files.left l.fn.files) (g.F.Files.left l.files) l.bytes.items;
+  opened : (g.F.Files.state l.files).opened ≡ true;
+  map : (g.F.Files.state l.files).map ≡ (g.F.Files.state l.fn.files).map;
+  misses : (g.F.Files.state l.files).counts.misses ≡ (g.F.Files.state l.fn.files).counts.misses;
+  later : AreLater (g.F.Files.state l.fn.files).counts (g.F.Files.state l.files).counts;
+  taken : RoseBy (length l.bytes.items) (g.F.Files.state l.fn.files).counts.taken (g.F.Files.state l.files).counts.taken;
+  consumed : Consumes (g.F.Files.state l.fn.files).left (g.F.Files.state l.files).left l.bytes.items;
   room : length l.buf ≡ 4096;
 }
 

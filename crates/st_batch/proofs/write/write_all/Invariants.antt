@@ -5,7 +5,7 @@ use Rattle.st_batch.proofs.write.write_all.Given as goal
 abbrev pub invariant-loop-at : goal.invariant-loop-at
 invariant-loop-at g l = record {
   within : l.at ≤ length l.bytes;
-  taken : Appends (g.O.Sink.taken l.fn.out) (g.O.Sink.taken l.out) (take l.at l.bytes);
+  taken : Appends (g.O.Sink.bytes l.fn.out) (g.O.Sink.bytes l.out) (take l.at l.bytes);
   later : g.O.Sink.faults l.fn.out ≤ g.O.Sink.faults l.out;
 }
 
