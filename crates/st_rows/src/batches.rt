@@ -1,104 +1,163 @@
-//! Batches from UTC to TAI with the setup `naif.tls`: the lines of the input, and the whole output.
+//! Batches from UTC to TAI with the setup `naif.tls`: the lines of the input, and their answers.
 
-use crate::session::{batch, folder};
-use st_batch::{LineFault, Status, run};
-use st_outside::{MemFiles, MemSink, MemSource, SafeFiles, SafeSink, SafeSource};
+use crate::rows::{Failing, SAFE, batch, folder, run_batch, run_row};
+use st_batch::{LineFault, Status};
+use std::alloc::Global;
 use std::test::Fail;
 
-/// A name, the input, the status and the output.
-const ROWS: [(&str, &str, Status, &str); 11] = [
-    ("no lines", "", Status::Done, ""),
+/// What a row is about, the status, and each line with its answer.
+const SESSIONS: [(&str, Status, &[(&str, &str)]); 9] = [
+    ("no lines", Status::Done, &[]),
     (
         "a leapseconds kernel for some time",
-        "2017-06-01T00:00:00\n$load short.tls\n2017-06-01T00:00:00\n$unload short.tls\n2017-06-01T00:00:00\n",
         Status::Done,
-        "549547237.000000\nloaded\n549547236.000000\nunloaded\n549547237.000000\n",
+        &[
+            ("2017-06-01T00:00:00", "549547237.000000"),
+            ("$load short.tls", "loaded"),
+            ("2017-06-01T00:00:00", "549547236.000000"),
+            ("$unload short.tls", "unloaded"),
+            ("2017-06-01T00:00:00", "549547237.000000"),
+        ],
     ),
     (
         "a pair is added, set anew, and added again",
-        "$load more.tls\n2030-06-01T00:00:00\n$load short.tls\n2030-06-01T00:00:00\n$unload more.tls\n2030-06-01T00:00:00\n",
         Status::Done,
-        "loaded\n959774438.000000\nloaded\n959774436.000000\nunloaded\n959774436.000000\n",
+        &[
+            ("$load more.tls", "loaded"),
+            ("2030-06-01T00:00:00", "959774438.000000"),
+            ("$load short.tls", "loaded"),
+            ("2030-06-01T00:00:00", "959774436.000000"),
+            ("$unload more.tls", "unloaded"),
+            ("2030-06-01T00:00:00", "959774436.000000"),
+        ],
     ),
     (
         "a pair is added to nothing, and is the only one",
-        "$clear\n$load more.tls\n2029-12-31T23:59:59\n2030-06-01T00:00:00\n",
         Status::Done,
-        "cleared\nloaded\n946728036.000000\n959774438.000000\n",
+        &[
+            ("$clear", "cleared"),
+            ("$load more.tls", "loaded"),
+            ("2029-12-31T23:59:59", "946728036.000000"),
+            ("2030-06-01T00:00:00", "959774438.000000"),
+        ],
     ),
     (
         "the last of a name goes first",
-        "$load more.tls\n$load short.tls\n$load more.tls\n2030-06-01T00:00:00\n$unload more.tls\n2030-06-01T00:00:00\n$unload short.tls\n2030-06-01T00:00:00\n",
         Status::SomeRefused,
-        "loaded\nloaded\nloaded\nrefused NOT_BUILT\nunloaded\n959774436.000000\nunloaded\n959774438.000000\n",
+        &[
+            ("$load more.tls", "loaded"),
+            ("$load short.tls", "loaded"),
+            ("$load more.tls", "loaded"),
+            ("2030-06-01T00:00:00", "refused NOT_BUILT"),
+            ("$unload more.tls", "unloaded"),
+            ("2030-06-01T00:00:00", "959774436.000000"),
+            ("$unload short.tls", "unloaded"),
+            ("2030-06-01T00:00:00", "959774438.000000"),
+        ],
     ),
     (
         "a refused load changes nothing",
-        "2017-06-01T00:00:00\n$load mixed.ker\n2017-06-01T00:00:00\n$unload mixed.ker\n",
         Status::SomeRefused,
-        "549547237.000000\nrefused KERNEL_TEXT 2 MIXED_KINDS\n549547237.000000\nrefused NOT_LOADED\n",
+        &[
+            ("2017-06-01T00:00:00", "549547237.000000"),
+            ("$load mixed.ker", "refused KERNEL_TEXT 2 MIXED_KINDS"),
+            ("2017-06-01T00:00:00", "549547237.000000"),
+            ("$unload mixed.ker", "refused NOT_LOADED"),
+        ],
     ),
     (
         "files without an assignment, and one that is cut",
-        "$load empty.ker\n$load plain.ker\n$load cut.ker\n2017-06-01T00:00:00\n$unload empty.ker\n$unload cut.ker\n",
         Status::SomeRefused,
-        "loaded\nloaded\nrefused KERNEL_TEXT 2 UNCLOSED\n549547237.000000\nunloaded\nrefused NOT_LOADED\n",
+        &[
+            ("$load empty.ker", "loaded"),
+            ("$load plain.ker", "loaded"),
+            ("$load cut.ker", "refused KERNEL_TEXT 2 UNCLOSED"),
+            ("2017-06-01T00:00:00", "549547237.000000"),
+            ("$unload empty.ker", "unloaded"),
+            ("$unload cut.ker", "refused NOT_LOADED"),
+        ],
     ),
     (
         "names that are not there, and no commands",
-        "$load absent\n$unload absent\n$drop x\n$\n$load\n$load \n$LOAD naif.tls\n$ load naif.tls\n$clear now\n$loadnaif.tls\n",
         Status::SomeRefused,
-        "refused NO_FILE\nrefused NOT_LOADED\nrefused BAD_COMMAND\nrefused BAD_COMMAND\nrefused BAD_COMMAND\nrefused BAD_COMMAND\nrefused BAD_COMMAND\nrefused BAD_COMMAND\nrefused BAD_COMMAND\nrefused BAD_COMMAND\n",
+        &[
+            ("$load absent", "refused NO_FILE"),
+            ("$unload absent", "refused NOT_LOADED"),
+            ("$drop x", "refused BAD_COMMAND"),
+            ("$", "refused BAD_COMMAND"),
+            ("$load", "refused BAD_COMMAND"),
+            ("$load ", "refused BAD_COMMAND"),
+            ("$LOAD naif.tls", "refused BAD_COMMAND"),
+            ("$ load naif.tls", "refused BAD_COMMAND"),
+            ("$clear now", "refused BAD_COMMAND"),
+            ("$loadnaif.tls", "refused BAD_COMMAND"),
+        ],
     ),
     (
         "no table is left",
-        "$clear\n2017-06-01T00:00:00\nno time\n$load\t \tshort.tls\t\n 2017-06-01T00:00:00\t\nno time\n",
         Status::SomeRefused,
-        "cleared\nrefused NOT_BUILT\nrefused NOT_BUILT\nloaded\n549547236.000000\nrefused BAD_TIME\n",
+        &[
+            ("$clear", "cleared"),
+            ("2017-06-01T00:00:00", "refused NOT_BUILT"),
+            ("no time", "refused NOT_BUILT"),
+            ("$load\t \tshort.tls\t", "loaded"),
+            (" 2017-06-01T00:00:00\t", "549547236.000000"),
+            ("no time", "refused BAD_TIME"),
+        ],
     ),
+];
+
+#[test]
+fn sessions(rt: HostRuntime) -> Result<(), Fail> {
+    let alloc = rt.alloc();
+    for (name, wanted, session) in SESSIONS {
+        let mut lines = Vec::new(alloc);
+        let mut answers = Vec::new(alloc);
+        for (line, answer) in session {
+            add_line(&mut lines, line)?;
+            add_line(&mut answers, answer)?;
+        }
+        let (status, output) = run_batch(alloc, lines.as_slice())?;
+        assert_eq!(rt; status, wanted, "{name}");
+        assert_eq!(rt; output.as_slice(), answers.as_slice(), "{name}");
+    }
+    Ok(())
+}
+
+/// Appends a text as a line.
+fn add_line(lines: &mut Vec<u8>, text: &str) -> Result<(), Fail> {
+    lines.extend_from_slice(text.as_bytes())?;
+    lines.push(b'\n')?;
+    Ok(())
+}
+
+/// What a row is about, the input, and the whole output.
+const ENDS_OF_LINES: [(&str, &str, &str); 2] = [
     (
         "lines that end with CR and LF, an empty one, and a last one without an end",
         "2017-06-01T00:00:00\r\n\r\n\n2000-01-01T12:00:00\r",
-        Status::SomeRefused,
         "549547237.000000\nrefused BAD_TIME\nrefused BAD_TIME\n32.000000\n",
     ),
     (
         "one CR is dropped",
         "2000-01-01T12:00:00\r\r\n",
-        Status::SomeRefused,
         "refused BAD_TIME\n",
     ),
 ];
 
 #[test]
-fn batches(rt: HostRuntime) -> Result<(), Fail> {
-    let alloc = rt.alloc();
-    let words = batch(alloc)?;
-    for (name, lines, wanted, output) in ROWS {
-        let mut kernels = SafeFiles::new(folder(alloc)?);
-        let mut input = SafeSource::new(Vec::from_slice(alloc, lines.as_bytes())?);
-        let mut out = SafeSink::new(alloc);
-        let status = run(alloc, words.as_slice(), &mut kernels, &mut input, &mut out);
-        assert_eq!(rt; status, wanted, "{name}");
-        assert_eq!(rt; out.bytes(), output.as_bytes(), "{name}");
+fn ends_of_lines(rt: HostRuntime) -> Result<(), Fail> {
+    for (name, lines, wanted) in ENDS_OF_LINES {
+        let (status, output) = run_batch(rt.alloc(), lines.as_bytes())?;
+        assert_eq!(rt; status, Status::SomeRefused, "{name}");
+        assert_eq!(rt; output.as_slice(), wanted.as_bytes(), "{name}");
     }
     Ok(())
 }
 
-/// The whole output for this input, and the status.
-fn answered(rt: &HostRuntime, lines: Vec<u8>) -> Result<(Status, Vec<u8>), Fail> {
-    let alloc = rt.alloc();
-    let words = batch(alloc)?;
-    let mut kernels = SafeFiles::new(folder(alloc)?);
-    let mut input = SafeSource::new(lines);
-    let mut out = SafeSink::new(alloc);
-    let status = run(alloc, words.as_slice(), &mut kernels, &mut input, &mut out);
-    Ok((status, Vec::from_slice(alloc, out.bytes())?))
-}
-
 /// A text, so many times.
-fn repeated(rt: &HostRuntime, text: &str, times: usize) -> Result<Vec<u8>, Fail> {
-    let mut lines = Vec::new(rt.alloc());
+fn repeated(alloc: Global, text: &str, times: usize) -> Result<Vec<u8>, Fail> {
+    let mut lines = Vec::new(alloc);
     for _ in 0..times {
         lines.extend_from_slice(text.as_bytes())?;
     }
@@ -117,12 +176,13 @@ const LONG_LINES: [(&str, usize, &str); 6] = [
 
 #[test]
 fn lines_longer_than_a_line_may_be(rt: HostRuntime) -> Result<(), Fail> {
+    let alloc = rt.alloc();
     for (first, count, wanted) in LONG_LINES {
-        let mut line = repeated(&rt, first, 1)?;
-        let rest = repeated(&rt, "x", count.saturating_sub(1))?;
+        let mut line = repeated(alloc, first, 1)?;
+        let rest = repeated(alloc, "x", count.saturating_sub(1))?;
         line.extend_from_slice(rest.as_slice())?;
         line.extend_from_slice(b"\r\n")?;
-        let (_, output) = answered(&rt, line)?;
+        let (_, output) = run_batch(alloc, line.as_slice())?;
         assert_eq!(rt; output.as_slice(), wanted.as_bytes(), "{first} {count}");
     }
     Ok(())
@@ -130,35 +190,37 @@ fn lines_longer_than_a_line_may_be(rt: HostRuntime) -> Result<(), Fail> {
 
 #[test]
 fn names_longer_than_a_name_may_be(rt: HostRuntime) -> Result<(), Fail> {
+    let alloc = rt.alloc();
     for (count, wanted) in [(255, "refused NO_FILE\n"), (256, "refused BAD_COMMAND\n")] {
-        let mut line = repeated(&rt, "$load ", 1)?;
-        line.extend_from_slice(repeated(&rt, "n", count)?.as_slice())?;
-        let (_, output) = answered(&rt, line)?;
+        let mut line = repeated(alloc, "$load ", 1)?;
+        line.extend_from_slice(repeated(alloc, "n", count)?.as_slice())?;
+        let (_, output) = run_batch(alloc, line.as_slice())?;
         assert_eq!(rt; output.as_slice(), wanted.as_bytes(), "{count}");
     }
-    let mut line = repeated(&rt, "$load ", 1)?;
+    let mut line = repeated(alloc, "$load ", 1)?;
     line.push(0xff)?;
-    let (_, output) = answered(&rt, line)?;
+    let (_, output) = run_batch(alloc, line.as_slice())?;
     assert_eq!(rt; output.as_slice(), b"refused BAD_COMMAND\n".as_slice());
     Ok(())
 }
 
 #[test]
 fn a_thousand_kernels(rt: HostRuntime) -> Result<(), Fail> {
-    let lines = repeated(&rt, "$load values.ker\n", 1001)?;
-    let mut wanted = repeated(&rt, "loaded\n", 999)?;
-    let refused = repeated(&rt, "refused TOO_MANY_KERNELS\n", 2)?;
+    let alloc = rt.alloc();
+    let lines = repeated(alloc, "$load values.ker\n", 1001)?;
+    let mut wanted = repeated(alloc, "loaded\n", 999)?;
+    let refused = repeated(alloc, "refused TOO_MANY_KERNELS\n", 2)?;
     wanted.extend_from_slice(refused.as_slice())?;
-    let (status, output) = answered(&rt, lines)?;
+    let (status, output) = run_batch(alloc, lines.as_slice())?;
     assert_eq!(rt; status, Status::SomeRefused);
     assert_eq!(rt; output.as_slice(), wanted.as_slice());
     Ok(())
 }
 
 /// A kernel that gives a variable this many thousand values.
-fn thousands_of_values(rt: &HostRuntime, count: usize) -> Result<Vec<u8>, Fail> {
-    let mut kernel = repeated(rt, "\\begindata\nX = (\n", 1)?;
-    let mut line = repeated(rt, "1 ", 250)?;
+fn thousands_of_values(alloc: Global, count: usize) -> Result<Vec<u8>, Fail> {
+    let mut kernel = repeated(alloc, "\\begindata\nX = (\n", 1)?;
+    let mut line = repeated(alloc, "1 ", 250)?;
     line.push(b'\n')?;
     for _ in 0..count {
         for _ in 0..4 {
@@ -174,27 +236,38 @@ fn two_million_values(rt: HostRuntime) -> Result<(), Fail> {
     let alloc = rt.alloc();
     let words = batch(alloc)?;
     let mut map = folder(alloc)?;
-    map.put(b"thousand.ker", thousands_of_values(&rt, 1)?)?;
-    map.put(b"million.ker", thousands_of_values(&rt, 1000)?)?;
+    map.put(b"million.ker", thousands_of_values(alloc, 1000)?)?;
+    // Without the setup's values two million have room, and not one more.
     let lines =
-        b"$load million.ker\n$load million.ker\n$unload naif.tls\n$load million.ker\n$load thousand.ker\n";
-    let mut kernels = SafeFiles::new(map);
-    let mut input = SafeSource::new(Vec::from_slice(alloc, lines)?);
-    let mut out = SafeSink::new(alloc);
-    let status = run(alloc, words.as_slice(), &mut kernels, &mut input, &mut out);
+        b"$unload naif.tls\n$load million.ker\n$load million.ker\n$load more.tls\n$load plain.ker\n";
+    let (status, output) = run_row(alloc, words.as_slice(), map, lines, SAFE)?;
     assert_eq!(rt; status, Status::SomeRefused);
-    // The setup's own values leave no room for the second million.
-    let wanted = b"loaded\nrefused TOO_MANY_VALUES\nunloaded\nloaded\nrefused TOO_MANY_VALUES\n";
-    assert_eq!(rt; out.bytes(), wanted.as_slice());
+    let wanted = b"unloaded\nloaded\nloaded\nrefused TOO_MANY_VALUES\nloaded\n";
+    assert_eq!(rt; output.as_slice(), wanted.as_slice());
+    Ok(())
+}
+
+#[test]
+fn a_file_that_is_too_long(rt: HostRuntime) -> Result<(), Fail> {
+    let alloc = rt.alloc();
+    let words = batch(alloc)?;
+    let mut map = folder(alloc)?;
+    map.put(b"long.ker", vec![in alloc; b' '; 16_777_217]?)?;
+    let lines = b"$load long.ker\n2017-06-01T00:00:00\n";
+    let (status, output) = run_row(alloc, words.as_slice(), map, lines, SAFE)?;
+    assert_eq!(rt; status, Status::SomeRefused);
+    let wanted = b"refused FILE_TOO_LONG\n549547237.000000\n";
+    assert_eq!(rt; output.as_slice(), wanted.as_slice());
     Ok(())
 }
 
 #[test]
 fn lines_cut_by_the_reads(rt: HostRuntime) -> Result<(), Fail> {
+    let alloc = rt.alloc();
     // 84,000 bytes, of which a read gives at most 65,536.
-    let lines = repeated(&rt, "2017-06-01T00:00:00\r\n", 4000)?;
-    let wanted = repeated(&rt, "549547237.000000\n", 4000)?;
-    let (status, output) = answered(&rt, lines)?;
+    let lines = repeated(alloc, "2017-06-01T00:00:00\r\n", 4000)?;
+    let wanted = repeated(alloc, "549547237.000000\n", 4000)?;
+    let (status, output) = run_batch(alloc, lines.as_slice())?;
     assert_eq!(rt; status, Status::Done);
     assert_eq!(rt; output.as_slice(), wanted.as_slice());
     Ok(())
@@ -204,22 +277,23 @@ fn lines_cut_by_the_reads(rt: HostRuntime) -> Result<(), Fail> {
 const TWO_LINES: &[u8] = b"$load short.tls\n2017-06-01T00:00:00";
 
 /// The status and the output of the two lines, where one call of the files fails.
-fn with_failing_file(rt: &HostRuntime, call: u32) -> Result<(Status, Vec<u8>), Fail> {
-    let alloc = rt.alloc();
+fn with_failing_file(alloc: Global, call: u32) -> Result<(Status, Vec<u8>), Fail> {
     let words = batch(alloc)?;
-    let mut kernels = MemFiles::new(folder(alloc)?, Vec::from_slice(alloc, &[call])?);
-    let mut input = SafeSource::new(Vec::from_slice(alloc, TWO_LINES)?);
-    let mut out = SafeSink::new(alloc);
-    let status = run(alloc, words.as_slice(), &mut kernels, &mut input, &mut out);
-    Ok((status, Vec::from_slice(alloc, out.bytes())?))
+    let failing = Failing {
+        files: call,
+        input: 0,
+        output: 0,
+    };
+    run_row(alloc, words.as_slice(), folder(alloc)?, TWO_LINES, failing)
 }
 
 #[test]
 fn faulty_loads(rt: HostRuntime) -> Result<(), Fail> {
+    let alloc = rt.alloc();
     // The first calls are those of the setup. The first one that `$load` makes opens its file, and the next one reads.
     let mut opening = 0;
     for call in 1..100 {
-        let (status, _) = with_failing_file(&rt, call)?;
+        let (status, _) = with_failing_file(alloc, call)?;
         if status == Status::SomeRefused {
             opening = call;
             break;
@@ -227,7 +301,7 @@ fn faulty_loads(rt: HostRuntime) -> Result<(), Fail> {
         assert_eq!(rt; status, Status::BadSetup(LineFault::FileFault), "{call}");
     }
     for failing in [opening, opening.saturating_add(1)] {
-        let (status, output) = with_failing_file(&rt, failing)?;
+        let (status, output) = with_failing_file(alloc, failing)?;
         assert_eq!(rt; status, Status::SomeRefused, "{failing}");
         assert_eq!(rt;
             output.as_slice(),
@@ -264,14 +338,15 @@ const FAULTS: [(u32, u32, Status, &str); 5] = [
 fn faults_of_the_outside(rt: HostRuntime) -> Result<(), Fail> {
     let alloc = rt.alloc();
     let words = batch(alloc)?;
-    for (read_call, write_call, wanted, output) in FAULTS {
-        let mut kernels = SafeFiles::new(folder(alloc)?);
-        let failing = Vec::from_slice(alloc, &[read_call])?;
-        let mut input = MemSource::new(Vec::from_slice(alloc, FIVE_LINES)?, failing);
-        let mut out = MemSink::new(alloc, Vec::from_slice(alloc, &[write_call])?);
-        let status = run(alloc, words.as_slice(), &mut kernels, &mut input, &mut out);
+    for (read_call, write_call, wanted, written) in FAULTS {
+        let failing = Failing {
+            files: 0,
+            input: read_call,
+            output: write_call,
+        };
+        let (status, output) = run_row(alloc, words.as_slice(), folder(alloc)?, FIVE_LINES, failing)?;
         assert_eq!(rt; status, wanted, "{read_call} {write_call}");
-        assert_eq!(rt; out.bytes(), output.as_bytes(), "{read_call} {write_call}");
+        assert_eq!(rt; output.as_slice(), written.as_bytes(), "{read_call} {write_call}");
     }
     Ok(())
 }

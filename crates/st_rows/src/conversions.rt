@@ -1,8 +1,7 @@
 //! Conversions from UTC to TAI with `naif.tls`.
 
-use crate::session::{files, to_tai};
-use st_batch::{Status, run};
-use st_outside::{SafeFiles, SafeSink, SafeSource};
+use crate::rows::{SAFE, files, run_row, to_tai};
+use st_batch::Status;
 use std::test::Fail;
 
 /// A time, and the whole output for it.
@@ -24,14 +23,11 @@ const ROWS: [(&str, &str); 11] = [
 #[test]
 fn conversions(rt: HostRuntime) -> Result<(), Fail> {
     let alloc = rt.alloc();
-    for (time, output) in ROWS {
+    for (time, wanted) in ROWS {
         let words = to_tai(alloc, time)?;
-        let mut kernels = SafeFiles::new(files(alloc)?);
-        let mut input = SafeSource::new(Vec::new(alloc));
-        let mut out = SafeSink::new(alloc);
-        let status = run(alloc, words.as_slice(), &mut kernels, &mut input, &mut out);
+        let (status, output) = run_row(alloc, words.as_slice(), files(alloc)?, b"", SAFE)?;
         assert_eq!(rt; status, Status::Done, "{time}");
-        assert_eq!(rt; out.bytes(), output.as_bytes(), "{time}");
+        assert_eq!(rt; output.as_slice(), wanted.as_bytes(), "{time}");
     }
     Ok(())
 }

@@ -12,6 +12,6 @@ mod files;
 #[cfg(test)]
 mod refusals;
 #[cfg(test)]
-mod session;
+mod rows;
 #[cfg(test)]
 mod sessions;

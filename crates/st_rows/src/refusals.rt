@@ -1,8 +1,8 @@
 //! Refused words, setups and times, and faults of the outside.
 
-use crate::session::{files, to_tai, words};
-use st_batch::{LineFault, Status, WordFault, run};
-use st_outside::{FileMap, MemFiles, MemSink, SafeFiles, SafeSink, SafeSource};
+use crate::rows::{Failing, SAFE, files, run_row, to_tai, words};
+use st_batch::{LineFault, Status, WordFault};
+use st_outside::FileMap;
 use std::test::Fail;
 
 /// Times that are refused.
@@ -26,12 +26,9 @@ fn refused_times(rt: HostRuntime) -> Result<(), Fail> {
     let alloc = rt.alloc();
     for time in NO_TIMES {
         let words = to_tai(alloc, time)?;
-        let mut kernels = SafeFiles::new(files(alloc)?);
-        let mut input = SafeSource::new(Vec::new(alloc));
-        let mut out = SafeSink::new(alloc);
-        let status = run(alloc, words.as_slice(), &mut kernels, &mut input, &mut out);
+        let (status, output) = run_row(alloc, words.as_slice(), files(alloc)?, b"", SAFE)?;
         assert_eq!(rt; status, Status::SomeRefused, "{time}");
-        assert_eq!(rt; out.bytes(), b"refused BAD_TIME\n".as_slice(), "{time}");
+        assert_eq!(rt; output.as_slice(), b"refused BAD_TIME\n".as_slice(), "{time}");
     }
     Ok(())
 }
@@ -51,23 +48,20 @@ const NO_TABLES: [&str; 11] = [
     "\\begindata\nDELTET/DELTA_AT = ( 10.5, @1972-JAN-1 )\n",
 ];
 
-/// The whole output for a setup file of these bytes, and the status.
-fn answered(rt: &HostRuntime, setup: &[u8]) -> Result<(Status, Vec<u8>), Fail> {
+/// How a conversion of noon on 2000-01-01 ends with a setup file of these bytes, and what it writes.
+fn with_setup(rt: &HostRuntime, setup: Vec<u8>) -> Result<(Status, Vec<u8>), Fail> {
     let alloc = rt.alloc();
     let words = to_tai(alloc, "2000-01-01T12:00:00")?;
     let mut map = FileMap::new(alloc);
-    map.put(b"naif.tls", Vec::from_slice(alloc, setup)?)?;
-    let mut kernels = SafeFiles::new(map);
-    let mut input = SafeSource::new(Vec::new(alloc));
-    let mut out = SafeSink::new(alloc);
-    let status = run(alloc, words.as_slice(), &mut kernels, &mut input, &mut out);
-    Ok((status, Vec::from_slice(alloc, out.bytes())?))
+    map.put(b"naif.tls", setup)?;
+    run_row(alloc, words.as_slice(), map, b"", SAFE)
 }
 
 #[test]
 fn setups_without_a_table(rt: HostRuntime) -> Result<(), Fail> {
     for setup in NO_TABLES {
-        let (status, output) = answered(&rt, setup.as_bytes())?;
+        let bytes = Vec::from_slice(rt.alloc(), setup.as_bytes())?;
+        let (status, output) = with_setup(&rt, bytes)?;
         assert_eq!(rt; status, Status::SomeRefused, "{setup}");
         assert_eq!(rt;
             output.as_slice(),
@@ -119,12 +113,13 @@ const NO_KERNELS: [(&str, &str); 10] = [
 #[test]
 fn setups_that_are_no_kernels(rt: HostRuntime) -> Result<(), Fail> {
     for (setup, wanted) in NO_KERNELS {
-        let (status, output) = answered(&rt, setup.as_bytes())?;
+        let bytes = Vec::from_slice(rt.alloc(), setup.as_bytes())?;
+        let (status, output) = with_setup(&rt, bytes)?;
         assert!(rt; matches!(status, Status::BadSetup(_)), "{setup}");
         assert_eq!(rt; output.as_slice(), wanted.as_bytes(), "{setup}");
     }
     let long = vec![in rt.alloc(); b'x'; 1001]?;
-    let (_, output) = answered(&rt, long.as_slice())?;
+    let (_, output) = with_setup(&rt, long)?;
     assert_eq!(rt;
         output.as_slice(),
         b"bad setup KERNEL_TEXT 1 LINE_TOO_LONG\n".as_slice()
@@ -143,7 +138,8 @@ const TABLES: [&str; 4] = [
 #[test]
 fn setups_with_a_table(rt: HostRuntime) -> Result<(), Fail> {
     for setup in TABLES {
-        let (status, output) = answered(&rt, setup.as_bytes())?;
+        let bytes = Vec::from_slice(rt.alloc(), setup.as_bytes())?;
+        let (status, output) = with_setup(&rt, bytes)?;
         assert_eq!(rt; status, Status::Done, "{setup}");
         assert_eq!(rt; output.as_slice(), b"10.000000\n".as_slice(), "{setup}");
     }
@@ -163,12 +159,9 @@ fn refused_words(rt: HostRuntime) -> Result<(), Fail> {
     ];
     for shape in shapes {
         let words = words(alloc, shape)?;
-        let mut kernels = SafeFiles::new(files(alloc)?);
-        let mut input = SafeSource::new(Vec::new(alloc));
-        let mut out = SafeSink::new(alloc);
-        let status = run(alloc, words.as_slice(), &mut kernels, &mut input, &mut out);
+        let (status, output) = run_row(alloc, words.as_slice(), files(alloc)?, b"", SAFE)?;
         assert_eq!(rt; status, Status::BadWords(WordFault::NotBuilt));
-        assert_eq!(rt; out.bytes(), b"bad words NOT_BUILT\n".as_slice());
+        assert_eq!(rt; output.as_slice(), b"bad words NOT_BUILT\n".as_slice());
     }
     Ok(())
 }
@@ -200,15 +193,16 @@ const FAULTS: [(u32, u32, Status, &str); 5] = [
 #[test]
 fn faults_outside(rt: HostRuntime) -> Result<(), Fail> {
     let alloc = rt.alloc();
-    for (file_call, write_call, wanted, output) in FAULTS {
-        let words = to_tai(alloc, "2000-01-01T12:00:00")?;
-        let failing = Vec::from_slice(alloc, &[file_call])?;
-        let mut kernels = MemFiles::new(files(alloc)?, failing);
-        let mut input = SafeSource::new(Vec::new(alloc));
-        let mut out = MemSink::new(alloc, Vec::from_slice(alloc, &[write_call])?);
-        let status = run(alloc, words.as_slice(), &mut kernels, &mut input, &mut out);
-        assert_eq!(rt; status, wanted, "{file_call} {write_call}");
-        assert_eq!(rt; out.bytes(), output.as_bytes(), "{file_call} {write_call}");
+    let words = to_tai(alloc, "2000-01-01T12:00:00")?;
+    for (of_files, of_output, wanted, written) in FAULTS {
+        let failing = Failing {
+            files: of_files,
+            input: 0,
+            output: of_output,
+        };
+        let (status, output) = run_row(alloc, words.as_slice(), files(alloc)?, b"", failing)?;
+        assert_eq!(rt; status, wanted, "{of_files} {of_output}");
+        assert_eq!(rt; output.as_slice(), written.as_bytes(), "{of_files} {of_output}");
     }
     Ok(())
 }
@@ -217,19 +211,12 @@ fn faults_outside(rt: HostRuntime) -> Result<(), Fail> {
 fn setups_that_are_absent_or_too_long(rt: HostRuntime) -> Result<(), Fail> {
     let alloc = rt.alloc();
     let words = to_tai(alloc, "2000-01-01T12:00:00")?;
-    let mut kernels = SafeFiles::new(FileMap::new(alloc));
-    let mut input = SafeSource::new(Vec::new(alloc));
-    let mut out = SafeSink::new(alloc);
-    let status = run(alloc, words.as_slice(), &mut kernels, &mut input, &mut out);
+    let (status, output) = run_row(alloc, words.as_slice(), FileMap::new(alloc), b"", SAFE)?;
     assert_eq!(rt; status, Status::BadSetup(LineFault::NoFile));
-    assert_eq!(rt; out.bytes(), b"bad setup NO_FILE\n".as_slice());
+    assert_eq!(rt; output.as_slice(), b"bad setup NO_FILE\n".as_slice());
 
-    let mut map = FileMap::new(alloc);
-    map.put(b"naif.tls", vec![in alloc; b' '; 16_777_217]?)?;
-    let mut kernels = SafeFiles::new(map);
-    let mut out = SafeSink::new(alloc);
-    let status = run(alloc, words.as_slice(), &mut kernels, &mut input, &mut out);
+    let (status, output) = with_setup(&rt, vec![in alloc; b' '; 16_777_217]?)?;
     assert_eq!(rt; status, Status::BadSetup(LineFault::FileTooLong));
-    assert_eq!(rt; out.bytes(), b"bad setup FILE_TOO_LONG\n".as_slice());
+    assert_eq!(rt; output.as_slice(), b"bad setup FILE_TOO_LONG\n".as_slice());
     Ok(())
 }

@@ -1,6 +1,6 @@
 //! A session by its own calls: its kernels, its answers, and the texts of refusals.
 
-use crate::session::folder;
+use crate::rows::folder;
 use st_batch::{Answer, Job, LineFault, Session, Work, put_refusal};
 use st_decimal::{Dec, KText};
 use st_kernel_text::{TextCause, Value};
@@ -25,6 +25,7 @@ fn opens_a_setup(rt: HostRuntime) -> Result<(), Fail> {
         assert!(rt; false);
         return Ok(());
     };
+    assert_eq!(rt; session.job().setup.as_slice(), b"values.ker".as_slice());
     let pool = session.pool();
     assert_eq!(rt; pool.len(), 1);
     assert_eq!(rt; pool.kind(b"X"), Kind::Texts);

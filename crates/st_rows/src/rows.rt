@@ -1,9 +1,47 @@
-//! Words and files of a row.
+//! A row: the words, the files and the input of a run, and how it ends.
 
 use crate::files::{CUT, MIXED, MORE, NAIF, PLAIN, VALUES, short};
-use st_outside::FileMap;
+use st_batch::{Status, run};
+use st_outside::{FileMap, MemFiles, MemSink, MemSource};
 use std::alloc::Global;
 use std::test::Fail;
+
+/// The calls of the files, of the input and of the output that fail, counted from 1; 0 where none does.
+#[derive(Clone, Copy)]
+pub struct Failing {
+    pub files: u32,
+    pub input: u32,
+    pub output: u32,
+}
+
+/// Nothing fails.
+pub const SAFE: Failing = Failing {
+    files: 0,
+    input: 0,
+    output: 0,
+};
+
+/// How a run of these words ends over these files and this input, and what it writes.
+pub fn run_row(
+    alloc: Global,
+    words: &[String],
+    files: FileMap,
+    input: &[u8],
+    failing: Failing,
+) -> Result<(Status, Vec<u8>), Fail> {
+    let mut files = MemFiles::new(files, Vec::from_slice(alloc, &[failing.files])?);
+    let failing_reads = Vec::from_slice(alloc, &[failing.input])?;
+    let mut input = MemSource::new(Vec::from_slice(alloc, input)?, failing_reads);
+    let mut out = MemSink::new(alloc, Vec::from_slice(alloc, &[failing.output])?);
+    let status = run(alloc, words, &mut files, &mut input, &mut out);
+    Ok((status, Vec::from_slice(alloc, out.bytes())?))
+}
+
+/// How a batch of these lines ends over the folder of the worked rows, and what it writes.
+pub fn run_batch(alloc: Global, lines: &[u8]) -> Result<(Status, Vec<u8>), Fail> {
+    let words = batch(alloc)?;
+    run_row(alloc, words.as_slice(), folder(alloc)?, lines, SAFE)
+}
 
 /// Words as the program takes them.
 pub fn words(alloc: Global, texts: &[&str]) -> Result<Vec<String>, Fail> {
