@@ -1,7 +1,7 @@
 //! How far UTC is behind TAI on a day.
 
 ghost use Rattle.std.specs.Prelude.{◌≡◌, ◌≤◌, length, true, false, int_le, neg_ℤ, pos, ◌≤ℤ◌};
-ghost use Rattle.std.specs.List.{IsPartitionPoint};
+ghost use Rattle.std.specs.List.Sorted.{IsPartitionPoint};
 ghost use Rattle.st_leaps.specs.Table as table;
 ghost use Rattle.st_leaps.specs.Table.{IsLeapTable, Rise};
 

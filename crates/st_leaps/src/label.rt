@@ -1,7 +1,7 @@
 //! The labels of UTC in TAI, both ways. The table is searched for days alone: the day of a TAI is
 //! that of its formal label, the day before or the day after.
 
-ghost use Rattle.std.specs.Prelude.{◌≡◌, ◌^◌, neg_ℤ, pos, ◌+ℤ◌, ◌-ℤ◌, ◌*ℤ◌, ◌≤ℤ◌, ◌<ℤ◌, MatchResult};
+ghost use Rattle.std.specs.Prelude.{◌≡◌, ◌*◌, ◌^◌, neg_ℤ, pos, ◌+ℤ◌, ◌-ℤ◌, ◌*ℤ◌, ◌≤ℤ◌, ◌<ℤ◌, MatchResult};
 ghost use Rattle.st_dates.specs.Label.{IsFormal, formal};
 ghost use Rattle.st_dates.specs.declared.label.Label.{Label as TheLabel};
 ghost use Rattle.st_fraction.specs.Fraction.{units};
