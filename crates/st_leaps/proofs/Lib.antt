@@ -1,2 +1,4 @@
 pub mod Days
 pub mod LabelLaws
+pub mod CountLaws
+pub mod Lengths
