@@ -48,6 +48,20 @@ last_before f (x ∷ xs) (suc (suc i)) h p =
     let there = slice_get-get_or xs i x (omega arith) in
     found_last f x xs ∙ rw (more, there) refl
 
+-- what the code takes: the pair before the point, if there is one
+pub last_is : (pairs : List LeapPair) (day : ℤ) (i : ℕ) (other : LeapPair) → i ≤ length pairs
+    → IsPartitionPoint (λ p. int_le p.day day ≡ true) (λ p. int_le p.day day ≡ false) pairs i → (i ≡ 0 → ⊥)
+    → Some (get_or pairs (i - 1) other) ≡ last_pair pairs day
+last_is pairs day zero other h p some = absurd (some refl)
+last_is pairs day (suc i) other h p some =
+    let e : suc i - 1 ≡ i = omega arith in
+    rw e (sym (last_before (λ q. int_le q.day day) pairs (suc i) h p ∙ slice_get-get_or pairs i other (omega arith)))
+
+pub last_is_none : (pairs : List LeapPair) (day : ℤ) (i : ℕ)
+    → IsPartitionPoint (λ p. int_le p.day day ≡ true) (λ p. int_le p.day day ≡ false) pairs i → i ≡ 0 → None ≡ last_pair pairs day
+last_is_none pairs day zero p none = sym (last_before (λ q. int_le q.day day) pairs zero (omega arith) p)
+last_is_none pairs day (suc i) p none = absurd (omega arith)
+
 -- the dates of pairs rise
 rise_at : (pairs : List LeapPair) (k : ℕ) (other : LeapPair) → Rise pairs → k + 1 < length pairs → IsStep (get_or pairs k other) (get_or pairs (k + 1) other)
 rise_at pairs k other r h =
@@ -78,7 +92,7 @@ parted pairs day r = λ i j d le within e.
 range_tail : (p : LeapPair) (pairs : List LeapPair) → All IsInRange (p ∷ pairs) → All IsInRange pairs
 range_tail p pairs all = λ k d h. all (suc k) d (omega arith)
 
-last_in_range : (pairs : List LeapPair) (day : ℤ) → All IsInRange pairs → IfSome (last_pair pairs day) (λ p. p.count ≤ 1000)
+pub last_in_range : (pairs : List LeapPair) (day : ℤ) → All IsInRange pairs → IfSome (last_pair pairs day) (λ p. p.count ≤ 1000)
 last_in_range [] day all = tt
 last_in_range (p ∷ pairs) day all =
     let P : Option LeapPair → Type 0 = λ o. IfSome o (λ p. p.count ≤ 1000) in

@@ -40,8 +40,8 @@ pub(crate) fn utc_of(pairs: &[LeapPair], tai: i128) -> Label
     requires range { IsTai tai }
     ensures is { IsLabelOf (table.count_on pairs.now) (units tai) (in_units result) }
     ensures only { (label : TheLabel) → IsLabelOf (table.count_on pairs.now) (units tai) (in_units label) → result ≡ label }
-    ensures day_from { neg_ℤ (pos 73_052) ≤ℤ result.day }
-    ensures day_to { result.day ≤ℤ pos 73_052 }
+    ensures day_from { neg_ℤ (pos 73_050) ≤ℤ result.day }
+    ensures day_to { result.day ≤ℤ pos 73_050 }
     ensures from { pos 0 ≤ℤ result.of_day }
     ensures to { result.of_day <ℤ pos (86_401 * 10 ^ 18) }
 {
@@ -58,8 +58,6 @@ fn day_of(pairs: &[LeapPair], tai: i128) -> i32
     requires range { IsTai tai }
     ensures started { start_units (table.count_on pairs.now) result ≤ℤ tai }
     ensures not_ended { tai <ℤ start_units (table.count_on pairs.now) (result +ℤ pos 1) }
-    ensures day_from { neg_ℤ (pos 73_052) ≤ℤ result }
-    ensures day_to { result ≤ℤ pos 73_052 }
 {
     let day = label_of(tai).day;
     if tai < start_of(pairs, day) {
@@ -75,8 +73,8 @@ fn day_of(pairs: &[LeapPair], tai: i128) -> i32
 #[tactic(auto, unfolding(crate::specs::LabelMachine::start_units))]
 fn start_of(pairs: &[LeapPair], day: i32) -> i128
     requires table { IsLeapTable pairs.now }
-    requires from { neg_ℤ (pos 73_052) ≤ℤ day }
-    requires to { day ≤ℤ pos 73_052 }
+    requires from { neg_ℤ (pos 73_050) ≤ℤ day }
+    requires to { day ≤ℤ pos 73_051 }
     ensures { result ≡ start_units (table.count_on pairs.now) day }
 {
     later_by(formal_of(Label { day, of_day: 0 }), count_on(pairs, day))
@@ -85,7 +83,7 @@ fn start_of(pairs: &[LeapPair], day: i32) -> i128
 /// How many seconds a day has.
 fn length_of(pairs: &[LeapPair], day: i32) -> i64
     requires table { IsLeapTable pairs.now }
-    requires to { day ≤ℤ pos 73_052 }
+    requires to { day ≤ℤ pos 73_051 }
     ensures value { result ≡ spec.length_of (table.count_on pairs.now) day }
     ensures from { pos 0 ≤ℤ result }
     ensures to { result ≤ℤ pos 88_000 }

@@ -74,8 +74,8 @@ impl LeapTable {
         requires { IsTai tai }
         ensures is { IsLabelOf (count_of self.now) (units tai) (in_units result) }
         ensures only { (label : TheLabel) → IsLabelOf (count_of self.now) (units tai) (in_units label) → result ≡ label }
-        ensures day_from { neg_ℤ (pos 73_052) ≤ℤ result.day }
-        ensures day_to { result.day ≤ℤ pos 73_052 }
+        ensures day_from { neg_ℤ (pos 73_050) ≤ℤ result.day }
+        ensures day_to { result.day ≤ℤ pos 73_050 }
         ensures from { pos 0 ≤ℤ result.of_day }
         ensures to { result.of_day <ℤ pos 86_401_000_000_000_000_000_000 }
     {
