@@ -4,3 +4,6 @@ pub mod CountLaws
 pub mod Lengths
 pub mod Casts
 pub mod Machine
+pub mod Decimals
+pub mod NumberLaws
+pub mod FaultLaws

@@ -3,7 +3,7 @@ use Rattle.std.specs.Prelude.{◌≡◌, ◌↔◌, ℤ, pos, neg_ℤ, ◌+ℤ�
 use Rattle.st_fraction.specs.Fraction.{Fraction, IsFraction, ◌≤ᶠ◌, ◌<ᶠ◌, ◌≈ᶠ◌, whole, units, ◌+ᶠ◌, ◌-ᶠ◌}
 use Rattle.st_dates.specs.declared.label.Label.{Label}
 use Rattle.st_decimal.specs.declared.number.Dec.{Dec}
-use Rattle.st_leaps.specs.Faults.{Gives}
+use Rattle.st_leaps.specs.Faults.{Agree, Gives}
 use Rattle.st_leaps.specs.Label.{Stamp, IsLabel, IsLabelOf, AreCounts, AreSameLabel, even_days, in_units, length_of, ◌≤ˡ◌}
 use Rattle.st_leaps.specs.OfTable.{count_of}
 use Rattle.st_leaps.specs.Table.{IsLeapTable, count_on}
@@ -18,9 +18,7 @@ EachHasAnswer = (numbers : List Dec) → (answer : Result (List LeapPair) LeapFa
 
 -- It is not both, and there is one table at most, and one first rule.
 abbrev pub OneAnswer : Type 0
-OneAnswer =
-    (numbers : List Dec) (a b : Result (List LeapPair) LeapFault) → Gives numbers a → Gives numbers b
-    → a ≢ Err OutOfMemory → b ≢ Err OutOfMemory → a ≡ b
+OneAnswer = (numbers : List Dec) (a b : Result (List LeapPair) LeapFault) → Gives numbers a → Gives numbers b → Agree a b
 
 -- The days of a table have counts, from one less than none to 1,000, and so have even days.
 abbrev pub EachTableCounts : Type 0
