@@ -1,5 +1,5 @@
 -- The first rule that numbers break: none before the pairs that are spelled, and then by the next pair's rules in order.
-use Rattle.std.proofs.Common.{◌≡◌, ◌≢◌, ℕ, zero, suc, ◌+◌, ◌-◌, ◌*◌, ◌%◌, ◌<◌, ◌≤◌, ◌⊎◌, inl, inr, ℤ, pos, ◌-ℤ◌, ◌≤ℤ◌, ◌<ℤ◌, unsigned_abs, List, [], ◌∷◌, ◌++◌, length, Some, Result, Ok, Err, refl, sym, ap, ◌∙◌, subst, arith}
+use Rattle.std.proofs.Common.{◌≡◌, ◌≢◌, ℕ, zero, suc, ◌+◌, ◌-◌, ◌*◌, ◌%◌, ◌<◌, ◌≤◌, ◌⊎◌, inl, inr, ℤ, pos, ◌-ℤ◌, ◌≤ℤ◌, ◌<ℤ◌, unsigned_abs, List, [], ◌∷◌, ◌++◌, length, get_or, Some, Result, Ok, Err, refl, sym, ap, ◌∙◌, subst, arith}
 use Rattle.std.specs.Prelude.{slice_get}
 use Rattle.std.specs.List.{All}
 use Rattle.std.proofs.lemmas.Int.{ints}
@@ -8,7 +8,7 @@ use Rattle.std.proofs.lemmas.Option.{same_Some, slice_get-get_or, slice_get_with
 use Rattle.st_decimal.specs.declared.number.Dec.{Dec}
 use Rattle.st_leaps.specs.Faults.{Breaks, FallsBack, LeapsBadly, HasPair, IsFirstFault, place_of}
 use Rattle.st_leaps.specs.Numbers.{IsCount, IsMidnight, HasCount, HasDay, IsTableOf}
-use Rattle.st_leaps.specs.NumbersMachine.{AreSpelled, HasLength}
+use Rattle.st_leaps.specs.NumbersMachine.{AreSpelled, HasLength, PairGives, StepGives}
 use Rattle.st_leaps.specs.Table.{IsStep, Rise, IsInRange, IsLeapTable}
 use Rattle.st_leaps.specs.declared.fault.LeapFault.{LeapFault}
 use Rattle.st_leaps.specs.declared.fault.LeapFault.TheVariants.{Empty, Odd, TooMany, NotWhole, NotMidnight, NotRising, BadStep, OutOfMemory}
@@ -268,3 +268,63 @@ all_spelled numbers pairs l s two =
       count = (s.counts k _ (slice_get-get_or pairs k d h)).is.in_range;
       day = (s.days k _ (slice_get-get_or pairs k d h)).is.in_range;
     }
+
+-- the same of what the code has at hand
+pub next_is : (numbers : List Dec) (pairs : List LeapPair) (d e : Dec) → HasLength (length numbers) → AreSpelled numbers pairs → 2 * length pairs < length numbers
+    → IsNext numbers pairs (get_or numbers (2 * length pairs) d) (get_or numbers (2 * length pairs + 1) e)
+next_is numbers pairs d e l s more =
+    let even = l.even in
+    record {
+      size = l;
+      spelled = s;
+      more = more;
+      count_at = slice_get-get_or numbers (2 * length pairs) d more;
+      date_at = slice_get-get_or numbers (2 * length pairs + 1) e (omega arith);
+    }
+
+pub pair_fault : (numbers : List Dec) (pairs : List LeapPair) (count date : Dec) (fault : LeapFault) → IsNext numbers pairs count date
+    → PairGives count date (length pairs + 1) (Err fault) → IsFirstFault numbers fault
+pair_fault numbers pairs count date (NotWhole n) x (e, none) =
+    let P : ℕ → Type 0 = λ m. IsFirstFault numbers (NotWhole m) in
+    subst P (sym e) (first_not_whole numbers pairs count date x none)
+pair_fault numbers pairs count date (NotMidnight n) x (e, c, none) =
+    let P : ℕ → Type 0 = λ m. IsFirstFault numbers (NotMidnight m) in
+    subst P (sym e) (first_not_midnight numbers pairs count date c.0 x c.1 none)
+pair_fault numbers pairs count date Empty x h = absurd h
+pair_fault numbers pairs count date Odd x h = absurd h
+pair_fault numbers pairs count date TooMany x h = absurd h
+pair_fault numbers pairs count date (NotRising n) x h = absurd h
+pair_fault numbers pairs count date (BadStep n) x h = absurd h
+pair_fault numbers pairs count date OutOfMemory x h = absurd h
+
+pub step_fault : (numbers : List Dec) (pairs : List LeapPair) (count date : Dec) (p q : LeapPair) (fault : LeapFault) → IsNext numbers pairs count date → IsLast pairs p
+    → PairGives count date (length pairs + 1) (Ok q) → StepGives p q (length pairs + 1) (Err fault) → IsFirstFault numbers fault
+step_fault numbers pairs count date p q (NotRising n) x l is (e, falls) =
+    let P : ℕ → Type 0 = λ m. IsFirstFault numbers (NotRising m) in
+    subst P (sym e) (first_not_rising numbers pairs count date p q x l is.0 is.1 falls)
+step_fault numbers pairs count date p q (BadStep n) x l is (e, rises, leaps) =
+    let P : ℕ → Type 0 = λ m. IsFirstFault numbers (BadStep m) in
+    subst P (sym e) (first_bad_step numbers pairs count date p q x l is.0 is.1 rises leaps)
+step_fault numbers pairs count date p q Empty x l is h = absurd h
+step_fault numbers pairs count date p q Odd x l is h = absurd h
+step_fault numbers pairs count date p q TooMany x l is h = absurd h
+step_fault numbers pairs count date p q (NotWhole n) x l is h = absurd h
+step_fault numbers pairs count date p q (NotMidnight n) x l is h = absurd h
+step_fault numbers pairs count date p q OutOfMemory x l is h = absurd h
+
+-- one last pair
+pub one_last : (pairs : List LeapPair) (a b : LeapPair) → IsLast pairs a → IsLast pairs b → a ≡ b
+one_last pairs a b h k =
+    let one = h.last in
+    let other = k.last in
+    let same : h.before ≡ k.before = omega arith in
+    same_Some a b (sym h.stands ∙ ap (slice_get pairs) same ∙ k.stands)
+
+-- the first pair has none before it
+pub no_last : (pairs : List LeapPair) (p : LeapPair) → length pairs ≡ 0 → IsLast pairs p → ⊥
+no_last pairs p none l = let last = l.last in omega arith
+
+pub last_is : (pairs : List LeapPair) (p : LeapPair) → slice_get pairs (length pairs - 1) ≡ Some p → IsLast pairs p
+last_is pairs p at =
+    let within = slice_get_within pairs (length pairs - 1) p at in
+    record { before = length pairs - 1; last = omega arith; stands = at }
