@@ -7,3 +7,4 @@ pub mod Machine
 pub mod Decimals
 pub mod NumberLaws
 pub mod FaultLaws
+pub mod AnswerLaws
