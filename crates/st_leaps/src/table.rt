@@ -45,7 +45,7 @@ impl LeapTable {
     {
         test_length(values)?;
         let mut pairs = Vec::new(alloc);
-        for _pair in 0..values.len() / 2 {
+        while 2 * pairs.len() < values.len() {
             let pair = next_pair(values, pairs.as_slice())?;
             append(&mut pairs, pair)?;
         }
