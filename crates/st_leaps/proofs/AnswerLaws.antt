@@ -1,12 +1,11 @@
 -- Each list of numbers is one table, or has one first rule that it breaks.
-use Rattle.std.proofs.Common.{◌≡◌, ◌≢◌, ℕ, zero, suc, ◌+◌, ◌-◌, ◌*◌, ◌%◌, ◌<◌, ◌≤◌, ◌⊎◌, inl, inr, ℤ, pos, ◌-ℤ◌, ◌≤ℤ◌, ◌<ℤ◌, unsigned_abs, List, [], ◌∷◌, ◌++◌, length, length-append, ◌/◌, Some, Result, Ok, Err, refl, sym, ap, ◌∙◌, subst, arith}
-use Rattle.std.specs.Prelude.{slice_get}
+use Rattle.std.proofs.Common.{◌≡◌, ◌≢◌, ℕ, zero, suc, ◌+◌, ◌-◌, ◌*◌, ◌%◌, ◌<◌, ◌≤◌, ◌⊎◌, inl, inr, ℤ, pos, ◌-ℤ◌, ◌≤ℤ◌, ◌<ℤ◌, unsigned_abs, List, [], ◌∷◌, ◌++◌, length, length-append, ◌/◌, Result, Ok, Err, refl, sym, ap, ◌∙◌, subst, arith}
 use Rattle.std.proofs.lemmas.Bool.{cases_lt}
-use Rattle.std.proofs.lemmas.Int.{ints, by_lt_z}
+use Rattle.std.proofs.lemmas.Int.{by_lt_z}
 use Rattle.std.proofs.lemmas.List.{nil_from_length}
 use Rattle.std.proofs.lemmas.Option.{none-some, slice_get_within}
 use Rattle.st_decimal.specs.declared.number.Dec.{Dec}
-use Rattle.st_leaps.specs.Faults.{Agree, Breaks, Gives, FallsBack, LeapsBadly, IsFirstFault, place_of}
+use Rattle.st_leaps.specs.Faults.{Agree, Breaks, Gives, IsFirstFault, place_of}
 use Rattle.st_leaps.specs.Numbers.{IsCount, IsMidnight, HasCount, HasDay, IsTableOf}
 use Rattle.st_leaps.specs.NumbersMachine.{AreSpelled, HasLength}
 use Rattle.st_leaps.specs.Table.{IsStep}
@@ -22,9 +21,9 @@ one_table numbers a b h k =
     let one = h.two_each in
     let other = k.two_each in
     same_lists a b (omega arith) (λ i p q at there.
-        let count = one_count_of numbers (i + 1) p.count q.count (h.counts i p at) (k.counts i q there) in
-        let day = one_day_of numbers (i + 1) p.day q.day (h.days i p at) (k.days i q there) in
-        λ j. record { count = count j; day = day j })
+    let count = one_count_of numbers (i + 1) p.count q.count (h.counts i p at) (k.counts i q there) in
+    let day = one_day_of numbers (i + 1) p.day q.day (h.days i p at) (k.days i q there) in
+    λ j. record { count = count j; day = day j })
 
 -- a table breaks no rule
 table_size : (numbers : List Dec) (pairs : List LeapPair) → IsTableOf numbers pairs → HasLength (length numbers)
@@ -191,11 +190,14 @@ abbrev pub Answer : List Dec → Type 0
 Answer numbers = (answer : Result (List LeapPair) LeapFault) × Gives numbers answer × (answer ≢ Err OutOfMemory)
 
 first_answer : (numbers : List Dec) (fault : LeapFault) → IsFirstFault numbers fault → Answer numbers
-first_answer numbers fault is =
-    (Err fault, gives_first numbers fault is, λ e.
-        let P : LeapFault → Type 0 = λ f. Breaks numbers f in
-        let same : fault ≡ OutOfMemory = cc in
-        subst P same is.breaks)
+first_answer numbers fault is = (
+  Err fault,
+  gives_first numbers fault is,
+  λ e.
+      let P : LeapFault → Type 0 = λ f. Breaks numbers f in
+      let same : fault ≡ OutOfMemory = cc in
+      subst P same is.breaks,
+)
 
 -- the next pair breaks a rule, or the pairs go on with it
 next_answer : (numbers : List Dec) (pairs : List LeapPair) (count date : Dec) → IsNext numbers pairs count date
@@ -235,7 +237,7 @@ answer_from (suc left) numbers pairs size spelled all =
     let count = element numbers (2 * length pairs) (omega arith) in
     let date = element numbers (2 * length pairs + 1) (omega arith) in
     next_answer numbers pairs count.0 date.0 (record { size = size; spelled = spelled; more = omega arith; count_at = count.1; date_at = date.1 })
-        (λ q more. answer_from left numbers (pairs ++ q ∷ []) size more (omega (arith, length-append pairs (q ∷ []))))
+    (λ q more. answer_from left numbers (pairs ++ q ∷ []) size more (omega (arith, length-append pairs (q ∷ []))))
 
 -- the rules for all numbers together
 first_empty : (numbers : List Dec) → numbers ≡ [] → IsFirstFault numbers Empty
@@ -283,7 +285,7 @@ each_has_answer numbers = elim (cases_lt 0 (length numbers)) [
       | inl many ↦ first_answer numbers TooMany (first_too_many numbers (omega arith) many)
       | inr few ↦
           answer_from (length numbers / 2) numbers [] (record { some = omega arith; even = omega arith; few = omega arith })
-              (none_spelled numbers) (omega arith)
+          (none_spelled numbers) (omega arith)
     ]
   ]
 ]

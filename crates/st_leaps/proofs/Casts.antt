@@ -1,7 +1,7 @@
 -- Numbers that fit are kept by casts.
-use Rattle.std.proofs.Common.{◌≡◌, ℕ, ◌<◌, Bool, true, false, ℤ, pos, neg_ℤ, ◌≤ℤ◌, ◌<ℤ◌, int_lt, int_le, arith}
+use Rattle.std.proofs.Common.{◌≡◌, ◌<◌, true, false, ℤ, pos, neg_ℤ, ◌≤ℤ◌, ◌<ℤ◌, int_lt, int_le, arith}
 use Rattle.std.proofs.lemmas.Int.{ints, to_z-of_z}
-use Rattle.std.specs.Int.{w32, w64, w128}
+use Rattle.std.specs.Int.{w32, w128}
 use lib.Signed.{mag}
 use mir.Val.{to_z, of_z, SFits}
 

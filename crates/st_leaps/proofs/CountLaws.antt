@@ -1,10 +1,9 @@
 -- The counts of a table's days, and where a day's pair stands in the table.
-use Rattle.std.proofs.Common.{◌≡◌, ℕ, zero, suc, ◌+◌, ◌-◌, ◌<◌, ◌≤◌, Bool, true, false, cond, ℤ, pos, neg_ℤ, ◌+ℤ◌, ◌-ℤ◌, ◌≤ℤ◌, ◌<ℤ◌, int_le, List, [], ◌∷◌, ◌++◌, length, get_or, reverse, Option, Some, None, refl, sym, ap, ◌∙◌, subst, arith}
+use Rattle.std.proofs.Common.{◌≡◌, ℕ, zero, suc, ◌+◌, ◌-◌, ◌<◌, ◌≤◌, Bool, true, false, cond, ℤ, pos, neg_ℤ, ◌≤ℤ◌, int_le, List, [], ◌∷◌, length, get_or, reverse, Option, Some, None, refl, sym, ap, ◌∙◌, subst, arith}
 use Rattle.std.specs.Prelude.{find, slice_get, IfSome}
 use Rattle.std.specs.List.{All}
 use Rattle.std.specs.List.Sorted.{IsPartitionPoint, IsPartitionedBy}
 use Rattle.std.specs.Option.{option_or}
-use Rattle.std.proofs.lemmas.Bool.{false≢true}
 use Rattle.std.proofs.lemmas.Int.{ints}
 use Rattle.std.proofs.lemmas.List.{reverse-append}
 use Rattle.std.proofs.lemmas.List.Folds.{find-append}
@@ -97,8 +96,8 @@ last_in_range [] day all = tt
 last_in_range (p ∷ pairs) day all =
     let P : Option LeapPair → Type 0 = λ o. IfSome o (λ p. p.count ≤ 1000) in
     subst P (sym (found_last (λ q. int_le q.day day) p pairs))
-        (either (last_pair pairs day) (cond (int_le p.day day) (Some p) None) (last_in_range pairs day (range_tail p pairs all))
-            (one (int_le p.day day) (all 0 p (omega arith)).count))
+    (either (last_pair pairs day) (cond (int_le p.day day) (Some p) None) (last_in_range pairs day (range_tail p pairs all))
+    (one (int_le p.day day) (all 0 p (omega arith)).count))
   where
     either : (a b : Option LeapPair) → IfSome a (λ p. p.count ≤ 1000) → IfSome b (λ p. p.count ≤ 1000) → IfSome (option_or a b) (λ p. p.count ≤ 1000)
     either None b h k = k

@@ -1,15 +1,14 @@
 -- Days are the steps of their starts, and a label is a place between two of them.
-use Rattle.std.proofs.Common.{◌≡◌, ℕ, ◌*◌, ◌<◌, ℤ, pos, neg_ℤ, ◌+ℤ◌, ◌-ℤ◌, ◌*ℤ◌, ◌≤ℤ◌, ◌<ℤ◌, refl, sym, ap, subst, arith, mul-pos, lit<}
+use Rattle.std.proofs.Common.{◌≡◌, ℕ, ◌*◌, ◌<◌, ℤ, pos, neg_ℤ, ◌+ℤ◌, ◌-ℤ◌, ◌*ℤ◌, ◌≤ℤ◌, ◌<ℤ◌, sym, subst, arith, lit<}
 use Rattle.std.proofs.lemmas.Int.{ints, by_lt_z}
-use Rattle.st_fraction.specs.Fraction.{Fraction, IsFraction, ◌≤ᶠ◌, ◌<ᶠ◌, ◌≈ᶠ◌, over, whole, ◌+ᶠ◌}
-use Rattle.st_fraction.specs.Floor.{IsFloor}
-use Rattle.st_fraction.proofs.Ring.{ring, lin, le-mul_z}
+use Rattle.st_fraction.specs.Fraction.{Fraction, IsFraction, over, whole}
+use Rattle.st_fraction.proofs.Ring.{ring, lin}
 use Rattle.st_fraction.proofs.Scale.{IsAt, at_add, at_le, le_at, same_at}
 use Rattle.st_fraction.proofs.Linear.{whole_at}
 use Rattle.st_fraction.proofs.Strict.{at_lt, lt_at}
 use Rattle.st_fraction.proofs.Order.{le_of_same, same_sym}
 use Rattle.st_fraction.proofs.Floors.{floor_found}
-use Rattle.st_leaps.specs.Label.{Stamp, IsLabel, IsLabelOf, AreCounts, formal_start, length_of, value_of}
+use Rattle.st_leaps.specs.Label.{Stamp, IsLabelOf, AreCounts, formal_start, length_of, value_of}
 
 -- the value at the start of a day, in seconds
 abbrev pub start : (ℤ → ℤ) → ℤ → ℤ
@@ -19,13 +18,13 @@ start count day = formal_start day +ℤ count day
 pub start_rises : (count : ℤ → ℤ) (d e : ℤ) → AreCounts count → d <ℤ e → start count (d +ℤ pos 1) ≤ℤ start count e
 start_rises count d e c l = by_lt_z (d +ℤ pos 1) e
     (λ (m : (d +ℤ pos 1) <ℤ e).
-        let to = c.to (d +ℤ pos 1) in
-        let from = c.from e in
-        omega (arith, ints))
+    let to = c.to (d +ℤ pos 1) in
+    let from = c.from e in
+    omega (arith, ints))
     (λ (m : e ≤ℤ (d +ℤ pos 1)).
-        let same : d +ℤ pos 1 ≡ e = omega (arith, ints) in
-        let P : ℤ → Type 0 = λ z. start count (d +ℤ pos 1) ≤ℤ start count z in
-        subst P same (omega (arith, ints)))
+    let same : d +ℤ pos 1 ≡ e = omega (arith, ints) in
+    let P : ℤ → Type 0 = λ z. start count (d +ℤ pos 1) ≤ℤ start count z in
+    subst P same (omega (arith, ints)))
 
 -- a value of x parts, m of which make a second, lies in the day, s parts after its start
 pub record IsPlaced (count : ℤ → ℤ) (m : ℕ) (day x s : ℤ) : Type 0 where
@@ -88,15 +87,15 @@ pub record IsWithinDay (count : ℤ → ℤ) (n day : ℤ) : Type 0 where
 within : (count : ℤ → ℤ) (n q : ℤ) → AreCounts count → formal_start q ≤ℤ n → n <ℤ formal_start (q +ℤ pos 1) → (day : ℤ) × IsWithinDay count n day
 within count n q c from to = by_lt_z n (start count q)
     (λ (early : n <ℤ start count q).
-        let most = c.to (q -ℤ pos 1) in
-        let back : q -ℤ pos 1 +ℤ pos 1 ≡ q = omega (arith, ints) in
-        let P : ℤ → Type 0 = λ z. n <ℤ start count z in
-        (q -ℤ pos 1, record { from = omega (arith, ints); to = subst P (sym back) early }))
+    let most = c.to (q -ℤ pos 1) in
+    let back : q -ℤ pos 1 +ℤ pos 1 ≡ q = omega (arith, ints) in
+    let P : ℤ → Type 0 = λ z. n <ℤ start count z in
+    (q -ℤ pos 1, record { from = omega (arith, ints); to = subst P (sym back) early }))
     (λ (late : start count q ≤ℤ n). by_lt_z n (start count (q +ℤ pos 1))
-        (λ (here : n <ℤ start count (q +ℤ pos 1)). (q, record { from = late; to = here }))
-        (λ (past : start count (q +ℤ pos 1) ≤ℤ n).
-            let least = c.from (q +ℤ pos 1 +ℤ pos 1) in
-            (q +ℤ pos 1, record { from = past; to = omega (arith, ints) })))
+    (λ (here : n <ℤ start count (q +ℤ pos 1)). (q, record { from = late; to = here }))
+    (λ (past : start count (q +ℤ pos 1) ≤ℤ n).
+    let least = c.from (q +ℤ pos 1 +ℤ pos 1) in
+    (q +ℤ pos 1, record { from = past; to = omega (arith, ints) })))
 
 pub found_day : (count : ℤ → ℤ) (n : ℤ) → AreCounts count → (day : ℤ) × IsWithinDay count n day
 found_day count n c =

@@ -1,5 +1,5 @@
 -- The first rule that numbers break: none before the pairs that are spelled, and then by the next pair's rules in order.
-use Rattle.std.proofs.Common.{◌≡◌, ◌≢◌, ℕ, zero, suc, ◌+◌, ◌-◌, ◌*◌, ◌%◌, ◌<◌, ◌≤◌, ◌⊎◌, inl, inr, ℤ, pos, ◌-ℤ◌, ◌≤ℤ◌, ◌<ℤ◌, unsigned_abs, List, [], ◌∷◌, ◌++◌, length, get_or, Some, Result, Ok, Err, refl, sym, ap, ◌∙◌, subst, arith}
+use Rattle.std.proofs.Common.{◌≡◌, ◌≢◌, ℕ, ◌+◌, ◌-◌, ◌*◌, ◌<◌, ◌≤◌, inl, inr, ℤ, pos, ◌-ℤ◌, ◌≤ℤ◌, ◌<ℤ◌, unsigned_abs, List, [], ◌∷◌, ◌++◌, length, get_or, Some, Ok, Err, refl, sym, ap, ◌∙◌, subst, arith}
 use Rattle.std.specs.Prelude.{slice_get}
 use Rattle.std.specs.List.{All}
 use Rattle.std.proofs.lemmas.Int.{ints}
@@ -9,7 +9,7 @@ use Rattle.st_decimal.specs.declared.number.Dec.{Dec}
 use Rattle.st_leaps.specs.Faults.{Breaks, FallsBack, LeapsBadly, HasPair, IsFirstFault, place_of}
 use Rattle.st_leaps.specs.Numbers.{IsCount, IsMidnight, HasCount, HasDay, IsTableOf}
 use Rattle.st_leaps.specs.NumbersMachine.{AreSpelled, HasLength, PairGives, StepGives}
-use Rattle.st_leaps.specs.Table.{IsStep, Rise, IsInRange, IsLeapTable}
+use Rattle.st_leaps.specs.Table.{IsStep, Rise, IsInRange}
 use Rattle.st_leaps.specs.declared.fault.LeapFault.{LeapFault}
 use Rattle.st_leaps.specs.declared.fault.LeapFault.TheVariants.{Empty, Odd, TooMany, NotWhole, NotMidnight, NotRising, BadStep, OutOfMemory}
 use Rattle.st_leaps.specs.declared.pair.LeapPair.{LeapPair}
@@ -147,15 +147,15 @@ pub first_not_whole : (numbers : List Dec) (pairs : List LeapPair) (count date :
     → IsFirstFault numbers (NotWhole (length pairs + 1))
 first_not_whole numbers pairs count date x none =
     first numbers (length pairs + 1) (NotWhole (length pairs + 1)) (omega arith) (kept numbers pairs x.size x.spelled)
-        (λ h b. absurd (omega arith)) (λ h b. absurd (omega arith)) (λ h b. absurd (omega arith)) (omega arith)
-        (has_pair numbers pairs count date x, λ c has. none c (number_of_count numbers (length pairs) c count x.count_at has))
+    (λ h b. absurd (omega arith)) (λ h b. absurd (omega arith)) (λ h b. absurd (omega arith)) (omega arith)
+    (has_pair numbers pairs count date x, λ c has. none c (number_of_count numbers (length pairs) c count x.count_at has))
 
 pub first_not_midnight : (numbers : List Dec) (pairs : List LeapPair) (count date : Dec) (c : ℕ) → IsNext numbers pairs count date → IsCount count c
     → ((day : ℤ) → IsMidnight date day → ⊥) → IsFirstFault numbers (NotMidnight (length pairs + 1))
 first_not_midnight numbers pairs count date c x is none =
     first numbers (length pairs + 1) (NotMidnight (length pairs + 1)) (omega arith) (kept numbers pairs x.size x.spelled)
-        (λ h b. b.1 c (has_count numbers pairs count date c x is)) (λ h b. absurd (omega arith)) (λ h b. absurd (omega arith)) (omega arith)
-        (has_pair numbers pairs count date x, λ day has. none day (number_of_day numbers (length pairs) day date x.date_at has))
+    (λ h b. b.1 c (has_count numbers pairs count date c x is)) (λ h b. absurd (omega arith)) (λ h b. absurd (omega arith)) (omega arith)
+    (has_pair numbers pairs count date x, λ day has. none day (number_of_day numbers (length pairs) day date x.date_at has))
 
 -- the last pair that is spelled, if there is one, is the one before
 pub record IsLast (pairs : List LeapPair) (p : LeapPair) : Type 0 where
@@ -168,17 +168,17 @@ pub first_not_rising : (numbers : List Dec) (pairs : List LeapPair) (count date 
 first_not_rising numbers pairs count date p q x l c d falls =
     let P : ℕ → Type 0 = λ n. HasDay numbers n p.day in
     first numbers (length pairs + 1) (NotRising (length pairs + 1)) (omega arith) (kept numbers pairs x.size x.spelled)
-        (λ h b. b.1 q.count (has_count numbers pairs count date q.count x c)) (λ h b. b.1 q.day (has_day numbers pairs count date q.day x d))
-        (λ h b. absurd (omega arith)) (omega arith)
-        (record {
-          before = length pairs;
-          next = refl;
-          day_before = p.day;
-          has_before = subst P (sym l.last) (x.spelled.days l.before p l.stands);
-          day = q.day;
-          has_day = has_day numbers pairs count date q.day x d;
-          falls = falls;
-        })
+    (λ h b. b.1 q.count (has_count numbers pairs count date q.count x c)) (λ h b. b.1 q.day (has_day numbers pairs count date q.day x d))
+    (λ h b. absurd (omega arith)) (omega arith)
+    (record {
+      before = length pairs;
+      next = refl;
+      day_before = p.day;
+      has_before = subst P (sym l.last) (x.spelled.days l.before p l.stands);
+      day = q.day;
+      has_day = has_day numbers pairs count date q.day x d;
+      falls = falls;
+    })
 
 pub first_bad_step : (numbers : List Dec) (pairs : List LeapPair) (count date : Dec) (p q : LeapPair) → IsNext numbers pairs count date → IsLast pairs p
     → IsCount count q.count → IsMidnight date q.day → p.day <ℤ q.day → unsigned_abs (pos q.count -ℤ pos p.count) ≢ 1 → IsFirstFault numbers (BadStep (length pairs + 1))
@@ -186,17 +186,17 @@ first_bad_step numbers pairs count date p q x l c d rises leaps =
     let P : ℕ → Type 0 = λ n. HasCount numbers n p.count in
     let Q : ℕ → Type 0 = λ n. HasDay numbers n p.day in
     first numbers (length pairs + 1) (BadStep (length pairs + 1)) (omega arith) (kept numbers pairs x.size x.spelled)
-        (λ h b. b.1 q.count (has_count numbers pairs count date q.count x c)) (λ h b. b.1 q.day (has_day numbers pairs count date q.day x d))
-        (λ h b. still b (subst Q (sym l.last) (x.spelled.days l.before p l.stands))) (omega arith)
-        (record {
-          before = length pairs;
-          next = refl;
-          count_before = p.count;
-          has_before = subst P (sym l.last) (x.spelled.counts l.before p l.stands);
-          count = q.count;
-          has_count = has_count numbers pairs count date q.count x c;
-          leaps = leaps;
-        })
+    (λ h b. b.1 q.count (has_count numbers pairs count date q.count x c)) (λ h b. b.1 q.day (has_day numbers pairs count date q.day x d))
+    (λ h b. still b (subst Q (sym l.last) (x.spelled.days l.before p l.stands))) (omega arith)
+    (record {
+      before = length pairs;
+      next = refl;
+      count_before = p.count;
+      has_before = subst P (sym l.last) (x.spelled.counts l.before p l.stands);
+      count = q.count;
+      has_count = has_count numbers pairs count date q.count x c;
+      leaps = leaps;
+    })
   where
     still : FallsBack numbers (length pairs + 1) → HasDay numbers (length pairs) p.day → ⊥
     still f has =

@@ -1,16 +1,16 @@
 -- Each time has one label, and labels rise with time.
-use Rattle.std.proofs.Common.{◌≡◌, ℕ, ◌*◌, ◌^◌, ◌<◌, ◌↔◌, ◌⊎◌, inl, inr, ℤ, pos, neg_ℤ, ◌+ℤ◌, ◌-ℤ◌, ◌*ℤ◌, ◌≤ℤ◌, ◌<ℤ◌, refl, sym, ap, ◌∙◌, subst, arith, mul-pos, lit<}
+use Rattle.std.proofs.Common.{◌≡◌, ℕ, ◌*◌, ◌^◌, ◌<◌, ◌↔◌, inl, inr, ℤ, pos, neg_ℤ, ◌+ℤ◌, ◌-ℤ◌, ◌*ℤ◌, ◌≤ℤ◌, ◌<ℤ◌, sym, ap, arith, mul-pos, lit<}
 use Rattle.std.proofs.lemmas.Int.{ints, by_lt_z}
 use Rattle.st_dates.specs.declared.label.Label.{Label}
 use Rattle.st_fraction.specs.Fraction.{Fraction, IsFraction, ◌≤ᶠ◌, ◌<ᶠ◌, ◌≈ᶠ◌, over, whole, units, ◌+ᶠ◌, ◌-ᶠ◌}
 use Rattle.st_fraction.proofs.Ring.{ring, numerals, lin, le-mul_z}
-use Rattle.st_fraction.proofs.Scale.{IsAt, at_self, at_more, at_add, at_sub, at_le, le_at, same_at}
-use Rattle.st_fraction.proofs.Linear.{AtOneScale, at_one_scale, whole_at, at_factor}
-use Rattle.st_fraction.proofs.Strict.{at_lt, lt_at}
-use Rattle.st_fraction.proofs.Order.{le_f_refl, le_of_same, same_sym, same_refl, same_trans, same_of_le}
+use Rattle.st_fraction.proofs.Scale.{IsAt, at_self, at_more, at_add, at_sub, at_le, le_at}
+use Rattle.st_fraction.proofs.Linear.{at_one_scale, whole_at, at_factor}
+use Rattle.st_fraction.proofs.Strict.{at_lt}
+use Rattle.st_fraction.proofs.Order.{le_f_refl, same_sym, same_refl, same_trans, same_of_le}
 use Rattle.st_fraction.proofs.Floors.{floor_found}
-use Rattle.st_leaps.specs.Label.{Stamp, IsLabel, IsLabelOf, AreCounts, AreSameLabel, in_units, length_of, value_of, ◌≤ˡ◌}
-use Rattle.st_leaps.proofs.Days.{start, start_rises, IsPlaced, placed, unplaced, IsWithinDay, found_day}
+use Rattle.st_leaps.specs.Label.{Stamp, IsLabel, IsLabelOf, AreCounts, AreSameLabel, in_units, value_of, ◌≤ˡ◌}
+use Rattle.st_leaps.proofs.Days.{start, start_rises, IsPlaced, placed, unplaced, found_day}
 
 -- a time lies in one day, so labels rise with it
 pub rises : (count : ℤ → ℤ) (v w : Fraction) (a b : Stamp) → AreCounts count → IsFraction v → IsFraction w
@@ -21,10 +21,10 @@ rises count v w a b c fv fw ha hb le =
     let q = placed count w b s.m s.xb s.xd s.some fw s.b_at s.d_at hb in
     let l = at_le s.m v w s.xa s.xb fv.positive fw.positive s.a_at s.b_at le in
     by_lt_z a.day b.day (λ h. inl h) (λ (h : b.day ≤ℤ a.day). by_lt_z b.day a.day
-        (λ (k : b.day <ℤ a.day). absurd (later s.m s.xa s.xb s.xc s.xd p q l k))
-        (λ (k : a.day ≤ℤ b.day).
-            let same : a.day ≡ b.day = omega (arith, ints) in
-            inr (same, le_at s.m a.second b.second s.xc s.xd s.some s.c_at s.d_at (on_day s.m s.xa s.xb s.xc s.xd p q l same))))
+    (λ (k : b.day <ℤ a.day). absurd (later s.m s.xa s.xb s.xc s.xd p q l k))
+    (λ (k : a.day ≤ℤ b.day).
+    let same : a.day ≡ b.day = omega (arith, ints) in
+    inr (same, le_at s.m a.second b.second s.xc s.xd s.some s.c_at s.d_at (on_day s.m s.xa s.xb s.xc s.xd p q l same))))
   where
     later : (m : ℕ) (x y s t : ℤ) → IsPlaced count m a.day x s → IsPlaced count m b.day y t → x ≤ℤ y → b.day <ℤ a.day → ⊥
     later m x y s t p q l k =
@@ -86,10 +86,12 @@ each_has_label count v c f =
     let most = at_lt m v (whole (n.0 +ℤ pos 1)) v.num ((n.0 +ℤ pos 1) *ℤ pos m) f.positive (at_self v) (whole_at (n.0 +ℤ pos 1) m) n.1.below_next in
     let from = le-mul_z s n.0 m d.1.from in
     let to = le-mul_z (n.0 +ℤ pos 1) (start count (d.0 +ℤ pos 1)) m (next n.0 (start count (d.0 +ℤ pos 1)) d.1.to) in
-    let second_is : 0 < v.den * 1 = let some = f.positive in omega arith in
-    (label, unplaced count v label m v.num (v.num +ℤ neg_ℤ (s *ℤ pos m)) f.positive f (record { positive = second_is })
-        (at_self v) (at_sub m v (whole s) v.num (s *ℤ pos m) (at_self v) (whole_at s m))
-        (record { from = omega (arith, lin); to = omega (arith, lin); passed = omega (arith, lin) }))
+    let second_is : 0 < v.den * 1 = let some = f.positive in omega arith in (
+      label,
+      unplaced count v label m v.num (v.num +ℤ neg_ℤ (s *ℤ pos m)) f.positive f (record { positive = second_is })
+          (at_self v) (at_sub m v (whole s) v.num (s *ℤ pos m) (at_self v) (whole_at s m))
+          (record { from = omega (arith, lin); to = omega (arith, lin); passed = omega (arith, lin) }),
+    )
   where
     next : (n e : ℤ) → n <ℤ e → (n +ℤ pos 1) ≤ℤ e
     next n e h = omega (arith, ints)
@@ -100,13 +102,12 @@ one_time count v w label h k =
     same_trans v (value_of count label) w den (same_sym (value_of count label) v h.value) k.value
 
 pub labels_have_times : (count : ℤ → ℤ) (label : Stamp) → IsLabel count label ↔ ((v : Fraction) × IsFraction v × IsLabelOf count v label)
-labels_have_times count label =
-    (
-      λ h.
-        let den : 0 < 1 * label.second.den = let some = h.second_is.positive in omega arith in
-        (value_of count label, record { positive = den }, record { is_label = h; value = same_refl (value_of count label) }),
-      λ h. h.2.is_label,
-    )
+labels_have_times count label = (
+  λ h.
+      let den : 0 < 1 * label.second.den = let some = h.second_is.positive in omega arith in
+      (value_of count label, record { positive = den }, record { is_label = h; value = same_refl (value_of count label) }),
+  λ h. h.2.is_label,
+)
 
 -- the second of a time that is a whole number of units is a whole number of units
 pub second_at : (count : ℤ → ℤ) (n : ℤ) (label : Stamp) → IsLabelOf count (units n) label → IsAt (10 ^ 18) label.second (n -ℤ start count label.day *ℤ pos (10 ^ 18))
@@ -124,12 +125,12 @@ second_at count n label is = record { at = go (start count label.day) label.seco
 next_unit : (n z : ℤ) (w r : ℕ) → 0 < r → (n *ℤ pos r) <ℤ (z *ℤ pos (w * r)) → ((n +ℤ pos 1) *ℤ pos r) ≤ℤ (z *ℤ pos (w * r))
 next_unit n z w r some h = by_lt_z n (z *ℤ pos w)
     (λ (l : n <ℤ (z *ℤ pos w)).
-        let m = le-mul_z (n +ℤ pos 1) (z *ℤ pos w) r (omega (arith, lin)) in
-        rw (sym (same z (pos w) (pos r))) m)
+    let m = le-mul_z (n +ℤ pos 1) (z *ℤ pos w) r (omega (arith, lin)) in
+    rw (sym (same z (pos w) (pos r))) m)
     (λ (l : (z *ℤ pos w) ≤ℤ n).
-        let m = le-mul_z (z *ℤ pos w) n r l in
-        let e = same z (pos w) (pos r) in
-        absurd (omega (arith, lin)))
+    let m = le-mul_z (z *ℤ pos w) n r l in
+    let e = same z (pos w) (pos r) in
+    absurd (omega (arith, lin)))
   where
     same : (z w r : ℤ) → z *ℤ w *ℤ r ≡ z *ℤ (w *ℤ r)
     same z w r = simp ring
@@ -159,10 +160,10 @@ label_of_floor count v n label f from to is =
         let passed = p.passed in
         let den : 0 < label.second.den * (r * u) = mul-pos is.is_label.second_is.positive (mul-pos f.positive unit) in
         unplaced count v (record { day = label.day; second = label.second +ᶠ (v -ᶠ over n u) }) m (v.num *ℤ pos u)
-            (s *ℤ pos r +ℤ (v.num *ℤ pos u +ℤ neg_ℤ (n *ℤ pos r))) some f (record { positive = den }) hv
-            (at_add m label.second (v -ᶠ over n u) (s *ℤ pos r) (v.num *ℤ pos u +ℤ neg_ℤ (n *ℤ pos r)) hs
-                (at_sub m v (over n u) (v.num *ℤ pos u) (n *ℤ pos r) hv hn))
-            (record { from = omega (arith, lin); to = omega (arith, lin); passed = omega (arith, lin) })
+        (s *ℤ pos r +ℤ (v.num *ℤ pos u +ℤ neg_ℤ (n *ℤ pos r))) some f (record { positive = den }) hv
+        (at_add m label.second (v -ᶠ over n u) (s *ℤ pos r) (v.num *ℤ pos u +ℤ neg_ℤ (n *ℤ pos r)) hs
+        (at_sub m v (over n u) (v.num *ℤ pos u) (n *ℤ pos r) hv hn))
+        (record { from = omega (arith, lin); to = omega (arith, lin); passed = omega (arith, lin) })
 
 -- a label that is told in units is one label
 pub label_returns : (count : ℤ → ℤ) (label other : Label) (tai : ℤ) → AreCounts count

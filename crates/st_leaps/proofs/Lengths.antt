@@ -1,10 +1,10 @@
 -- The lengths of days: counts go up or down by one from a day to the next, or stay.
-use Rattle.std.proofs.Common.{◌≡◌, ℕ, suc, ◌+◌, ◌<◌, Bool, true, false, cond, ℤ, pos, negsuc, neg_ℤ, ◌+ℤ◌, ◌-ℤ◌, ◌≤ℤ◌, ◌<ℤ◌, int_le, unsigned_abs, List, [], ◌∷◌, Option, Some, None, refl, sym, ap, ◌∙◌, subst, arith}
+use Rattle.std.proofs.Common.{◌≡◌, ℕ, suc, ◌+◌, Bool, true, false, cond, ℤ, pos, negsuc, neg_ℤ, ◌+ℤ◌, ◌-ℤ◌, ◌≤ℤ◌, ◌<ℤ◌, int_le, unsigned_abs, List, [], ◌∷◌, Option, Some, None, refl, ap, ◌∙◌, subst, arith}
 use Rattle.std.specs.Prelude.{slice_get}
 use Rattle.std.specs.Option.{option_or}
 use Rattle.std.proofs.lemmas.Int.{ints, by_lt_z}
 use Rattle.st_leaps.specs.Label.{length_of}
-use Rattle.st_leaps.specs.Table.{IsStep, Rise, IsLeapTable, count_before, count_or, count_on, last_pair}
+use Rattle.st_leaps.specs.Table.{Rise, IsLeapTable, count_before, count_or, count_on, last_pair}
 use Rattle.st_leaps.specs.declared.pair.LeapPair.{LeapPair}
 use Rattle.st_leaps.proofs.CountLaws.{found_last}
 
@@ -76,19 +76,19 @@ close b day (p ∷ pairs) r s =
         → AreClose (count_or b (last_pair (p ∷ pairs) day)) (count_or b (last_pair (p ∷ pairs) (day +ℤ pos 1)))
     fork more = by_lt_z day p.day
         (λ (early : day <ℤ p.day). by_lt_z (day +ℤ pos 1) p.day
-            (λ (still : (day +ℤ pos 1) <ℤ p.day).
-                both _ _ b b (none_yet b day p pairs r early) (none_yet b (day +ℤ pos 1) p pairs r still)
-                    (record { up = omega (arith, ints); down = omega (arith, ints) }))
-            (λ (now : p.day ≤ℤ (day +ℤ pos 1)).
-                let near = one_apart (pos p.count -ℤ b) s in
-                let from = near.0 in
-                let to = near.1 in
-                both _ _ b (pos p.count) (none_yet b day p pairs r early) (first_counts b (day +ℤ pos 1) p pairs r (omega (arith, ints)))
-                    (record { up = omega (arith, ints); down = omega (arith, ints) })))
+        (λ (still : (day +ℤ pos 1) <ℤ p.day).
+        both _ _ b b (none_yet b day p pairs r early) (none_yet b (day +ℤ pos 1) p pairs r still)
+        (record { up = omega (arith, ints); down = omega (arith, ints) }))
+        (λ (now : p.day ≤ℤ (day +ℤ pos 1)).
+        let near = one_apart (pos p.count -ℤ b) s in
+        let from = near.0 in
+        let to = near.1 in
+        both _ _ b (pos p.count) (none_yet b day p pairs r early) (first_counts b (day +ℤ pos 1) p pairs r (omega (arith, ints)))
+        (record { up = omega (arith, ints); down = omega (arith, ints) })))
         (λ (late : p.day ≤ℤ day).
-            let passes : int_le p.day day ≡ true = grind (arith, ints) in
-            let next : int_le p.day (day +ℤ pos 1) ≡ true = grind (arith, ints) in
-            both _ _ _ _ (count_last b day p pairs ∙ rw passes refl) (count_last b (day +ℤ pos 1) p pairs ∙ rw next refl) more)
+        let passes : int_le p.day day ≡ true = grind (arith, ints) in
+        let next : int_le p.day (day +ℤ pos 1) ≡ true = grind (arith, ints) in
+        both _ _ _ _ (count_last b day p pairs ∙ rw passes refl) (count_last b (day +ℤ pos 1) p pairs ∙ rw next refl) more)
 
 steps_from_first : (pairs : List LeapPair) → StepsFrom (count_before pairs) pairs
 steps_from_first [] = tt

@@ -1,7 +1,7 @@
 -- Labels and times in units, as the code counts them.
-use Rattle.std.proofs.Common.{◌≡◌, ℕ, ◌*◌, ◌^◌, ◌<◌, ℤ, pos, neg_ℤ, ◌+ℤ◌, ◌-ℤ◌, ◌*ℤ◌, ◌≤ℤ◌, ◌<ℤ◌, refl, sym, ap, ◌∙◌, subst, arith, lit<}
+use Rattle.std.proofs.Common.{◌≡◌, ◌^◌, ℤ, pos, neg_ℤ, ◌+ℤ◌, ◌-ℤ◌, ◌*ℤ◌, ◌≤ℤ◌, ◌<ℤ◌, arith, lit<}
 use Rattle.std.proofs.lemmas.Int.{ints}
-use Rattle.st_dates.specs.Label.{formal, IsFormal, IsPlainLabel}
+use Rattle.st_dates.specs.Label.{formal, IsPlainLabel}
 use Rattle.st_dates.specs.declared.label.Label.{Label}
 use Rattle.st_fraction.specs.Fraction.{units}
 use Rattle.st_fraction.proofs.Scale.{at_self}
@@ -15,7 +15,7 @@ pub label_is : (count : ℤ → ℤ) (label : Label) (tai : ℤ) → (start coun
     → IsLabelOf count (units tai) (in_units label)
 label_is count label tai from to passed =
     unplaced count (units tai) (in_units label) (10 ^ 18) tai label.of_day (lit< tt) (record { positive = lit< tt }) (record { positive = lit< tt })
-        (at_self (units tai)) (at_self (units label.of_day)) (record { from = from; to = to; passed = passed })
+    (at_self (units tai)) (at_self (units label.of_day)) (record { from = from; to = to; passed = passed })
 
 pub label_has : (count : ℤ → ℤ) (label : Label) (tai : ℤ) → pos 0 ≤ℤ label.of_day → label.of_day <ℤ (length_of count label.day *ℤ pos 1_000_000_000_000_000_000)
     → tai ≡ formal label +ℤ (count label.day *ℤ pos 1_000_000_000_000_000_000) → IsLabelOf count (units tai) (in_units label)

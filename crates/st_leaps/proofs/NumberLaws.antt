@@ -1,19 +1,17 @@
 -- Numbers that spell counts and dates, and lists that grow by a pair.
-use Rattle.std.proofs.Common.{◌≡◌, ℕ, zero, suc, ◌+◌, ◌-◌, ◌*◌, ◌<◌, ◌≤◌, ◌⊎◌, inl, inr, ℤ, pos, ◌+ℤ◌, ◌*ℤ◌, ◌≤ℤ◌, ◌<ℤ◌, List, [], ◌∷◌, ◌++◌, length, Option, Some, None, refl, sym, ap, ◌∙◌, subst, arith, lit<}
+use Rattle.std.proofs.Common.{◌≡◌, ℕ, zero, suc, ◌+◌, ◌*◌, ◌<◌, ◌⊎◌, inl, inr, ℤ, pos, ◌+ℤ◌, ◌≤ℤ◌, ◌<ℤ◌, List, [], ◌∷◌, ◌++◌, length, Some, refl, sym, ap, ◌∙◌, subst, arith, lit<}
 use Rattle.std.specs.Prelude.{slice_get}
 use Rattle.std.proofs.lemmas.Int.{ints, by_lt_z}
-use Rattle.std.proofs.lemmas.Option.{none-some, same_Some, slice_get-get_or, slice_get_within}
+use Rattle.std.proofs.lemmas.Option.{none-some, same_Some}
 use Rattle.st_dates.specs.AtDate.{moment, IsInRange as IsTimeInRange}
 use Rattle.st_dates.specs.Label.{formal}
 use Rattle.st_dates.specs.Range.{range_start, range_end}
 use Rattle.st_dates.specs.declared.label.Label.{Label}
-use Rattle.st_decimal.specs.Scaling.{IsUnits18, IsWhole}
+use Rattle.st_decimal.specs.Scaling.{IsUnits18}
 use Rattle.st_decimal.specs.declared.number.Dec.{Dec}
 use Rattle.st_fraction.specs.Fraction.{over}
 use Rattle.st_fraction.proofs.Floors.{floor_found}
 use Rattle.st_leaps.specs.Numbers.{IsCount, IsMidnight, HasCount, HasDay}
-use Rattle.st_leaps.specs.Table.{IsCountInRange, IsDayInRange}
-use Rattle.st_leaps.specs.declared.pair.LeapPair.{LeapPair}
 use Rattle.st_leaps.proofs.Decimals.{one-units, one-count, told-units, told-count}
 
 -- a midnight is one day's
@@ -76,8 +74,8 @@ told_moment u =
     let from = f.1.at_most.le in
     let to = f.1.below_next.lt in
     by_lt_z (moment f.0 0) u
-        (λ (more : moment f.0 0 <ℤ u). inr (λ (day : ℤ) (e : u ≡ moment day 0). between u f.0 day more (omega (arith, ints)) e))
-        (λ (less : u ≤ℤ moment f.0 0). inl (f.0, (omega (arith, ints))))
+    (λ (more : moment f.0 0 <ℤ u). inr (λ (day : ℤ) (e : u ≡ moment day 0). between u f.0 day more (omega (arith, ints)) e))
+    (λ (less : u ≤ℤ moment f.0 0). inl (f.0, (omega (arith, ints))))
   where
     between : (u q day : ℤ) → moment q 0 <ℤ u → u <ℤ moment (q +ℤ pos 1) 0 → u ≡ moment day 0 → ⊥
     between u q day more less e = omega (arith, ints)
@@ -89,16 +87,16 @@ told_midnight number = elim (told-units number) [ inl h ↦ units h.0 h.1 | inr 
     ranged u day is e =
         let P : ℤ → Type 0 = λ z. IsUnits18 number z in
         by_lt_z (moment day 0) range_start
-            (λ (early : moment day 0 <ℤ range_start). inr (λ (d : ℤ) (m : IsMidnight number d).
-                let same = one-units number u (moment d 0) is m.units in
-                let low = m.in_range.0 in
-                omega (arith, ints)))
-            (λ (from : range_start ≤ℤ moment day 0). by_lt_z range_end (moment day 0)
-                (λ (late : range_end <ℤ moment day 0). inr (λ (d : ℤ) (m : IsMidnight number d).
-                    let same = one-units number u (moment d 0) is m.units in
-                    let high = m.in_range.1 in
-                    omega (arith, ints)))
-                (λ (to : moment day 0 ≤ℤ range_end). inl (day, record { units = subst P e is; in_range = (from, to) })))
+        (λ (early : moment day 0 <ℤ range_start). inr (λ (d : ℤ) (m : IsMidnight number d).
+        let same = one-units number u (moment d 0) is m.units in
+        let low = m.in_range.0 in
+        omega (arith, ints)))
+        (λ (from : range_start ≤ℤ moment day 0). by_lt_z range_end (moment day 0)
+        (λ (late : range_end <ℤ moment day 0). inr (λ (d : ℤ) (m : IsMidnight number d).
+        let same = one-units number u (moment d 0) is m.units in
+        let high = m.in_range.1 in
+        omega (arith, ints)))
+        (λ (to : moment day 0 ≤ℤ range_end). inl (day, record { units = subst P e is; in_range = (from, to) })))
 
     units : (u : ℤ) → IsUnits18 number u → ((d : ℤ) × IsMidnight number d) ⊎ ((d : ℤ) → IsMidnight number d → ⊥)
     units u is = elim (told_moment u) [

@@ -1,6 +1,6 @@
 -- What the definitions of tables and labels say by themselves, as laws.
-use Rattle.std.specs.Prelude.{◌≡◌, ◌↔◌, ℤ, pos, neg_ℤ, ◌+ℤ◌, ◌≤ℤ◌, ◌<ℤ◌, List, Result, ◌≢◌, Err}
-use Rattle.st_fraction.specs.Fraction.{Fraction, IsFraction, ◌≤ᶠ◌, ◌<ᶠ◌, ◌≈ᶠ◌, whole, units, ◌+ᶠ◌, ◌-ᶠ◌}
+use Rattle.std.specs.Prelude.{◌≡◌, ◌↔◌, ℤ, pos, ◌+ℤ◌, ◌≤ℤ◌, List, Result, ◌≢◌, Err}
+use Rattle.st_fraction.specs.Fraction.{Fraction, IsFraction, ◌≤ᶠ◌, ◌<ᶠ◌, ◌≈ᶠ◌, units, ◌+ᶠ◌, ◌-ᶠ◌}
 use Rattle.st_dates.specs.declared.label.Label.{Label}
 use Rattle.st_decimal.specs.declared.number.Dec.{Dec}
 use Rattle.st_leaps.specs.Faults.{Agree, Gives}

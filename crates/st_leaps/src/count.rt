@@ -52,9 +52,9 @@ fn pairs_until(pairs: &[LeapPair], day: i32) -> usize
     ensures bound { result ≤ length pairs.now }
     ensures point { IsPartitionPoint (λ p. int_le p.day day ≡ true) (λ p. int_le p.day day ≡ false) pairs.now result }
 {
-    pairs.partition_point(|pair: &LeapPair| -> bool
-        ensures { result ≡ int_le pair.now.day day }
-    {
-        pair.day <= day
-    })
+    pairs.partition_point(
+        |pair: &LeapPair| -> bool
+            ensures { result ≡ int_le pair.now.day day }
+        { pair.day <= day },
+    )
 }

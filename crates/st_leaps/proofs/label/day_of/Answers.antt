@@ -3,7 +3,7 @@ use Rattle.std.proofs.lemmas.Int.{ints, to_z-of_z}
 use Rattle.std.specs.Int.{w32, w128}
 use Rattle.st_leaps.specs.LabelMachine.{start_units}
 use Rattle.st_leaps.specs.Table.{count_on}
-use Rattle.st_leaps.proofs.Casts.{small32, kept128, less, not_less}
+use Rattle.st_leaps.proofs.Casts.{small32, kept128, less}
 use Rattle.st_leaps.proofs.CountLaws.{tables_count}
 use Rattle.st_leaps.proofs.Machine.{near_label, day_before, day_after}
 use Rattle.st_leaps.proofs.label.day_of.Goals as goal
@@ -36,7 +36,7 @@ returns-then-tai-start_of-clause-not_ended c =
     let P : ℤ → Type 0 = λ z. c.args.tai <ℤ start_units (count_on c.args.pairs.now) z in
     let same : d ≡ to_z w32 (of_z w32 (to_z w32 (of_z w32 d) -ℤ pos 1)) +ℤ pos 1 = let b = back d near in omega (arith, ints) in
     subst P (here d near ∙ same) (less _ _ _ _ (to_z-of_z w128 c.args.tai c.ranges.tai)
-        (kept128 c.start_of.result c.start_of.type_inv ∙ c.start_of.ensures) c.if-tai-start_of.true)
+    (kept128 c.start_of.result c.start_of.type_inv ∙ c.start_of.ensures) c.if-tai-start_of.true)
 
 pub returns-then-tai-start_of-2-clause-not_ended : goal.returns-then-tai-start_of-2-clause-not_ended
 returns-then-tai-start_of-2-clause-not_ended c =
@@ -45,7 +45,7 @@ returns-then-tai-start_of-2-clause-not_ended c =
     let near = near_label c.label_of-day.result c.args.tai c.requires.range c.label_of-day.ensures.plain is in
     let P : ℤ → Type 0 = λ z. c.args.tai <ℤ start_units (count_on c.args.pairs.now) z in
     subst P (on d near ∙ ap (λ (z : ℤ). z +ℤ pos 1) (sym (here d near))) (less _ _ _ _ (to_z-of_z w128 c.args.tai c.ranges.tai)
-        (kept128 c.start_of-else-tai-start_of.result c.start_of-else-tai-start_of.type_inv ∙ c.start_of-else-tai-start_of.ensures) c.if-tai-start_of-2.true)
+    (kept128 c.start_of-else-tai-start_of.result c.start_of-else-tai-start_of.type_inv ∙ c.start_of-else-tai-start_of.ensures) c.if-tai-start_of-2.true)
 
 pub returns-else-tai-start_of-2-clause-not_ended : goal.returns-else-tai-start_of-2-clause-not_ended
 returns-else-tai-start_of-2-clause-not_ended c =

@@ -1,10 +1,9 @@
-use Rattle.std.proofs.Common.{◌≡◌, ℤ, pos, ◌+ℤ◌, ◌*ℤ◌, ◌<ℤ◌, ◌≤ℤ◌, sym, ap, ◌∙◌, subst, refl, arith, rules}
-use Rattle.std.proofs.lemmas.Int.{ints, to_z-of_z}
+use Rattle.std.proofs.Common.{◌≡◌, ℤ, pos, ◌+ℤ◌, ◌*ℤ◌, ◌≤ℤ◌, ap, ◌∙◌, refl, arith, rules}
+use Rattle.std.proofs.lemmas.Int.{ints}
 use Rattle.std.specs.Int.{w32, w64, w128}
-use Rattle.st_dates.specs.Label.{formal}
 use Rattle.st_leaps.specs.Table.{count_on}
 use Rattle.st_leaps.specs.Label.{length_of}
-use Rattle.st_leaps.proofs.Casts.{kept128, less, not_less, not_at_most}
+use Rattle.st_leaps.proofs.Casts.{kept128, not_less, not_at_most}
 use Rattle.st_leaps.proofs.Machine.{label_has}
 use Rattle.st_leaps.proofs.label.tai_of.Goals as goal
 use mir.Val.{to_z, of_z}

@@ -73,7 +73,7 @@ returns-clause-is c =
     let range = day_range count d c.args.tai counts c.requires.range is.started is.not_ended in
     let day = same_day d range in
     let second = same_second _ c.args.tai _ c.since.result (start_units count d) c.since.type_inv c.since.ensures
-        (to_z-of_z w128 c.args.tai c.ranges.tai) (same_start count d _ c.start_of.result day c.start_of.type_inv c.start_of.ensures) in
+    (to_z-of_z w128 c.args.tai c.ranges.tai) (same_start count d _ c.start_of.result day c.start_of.type_inv c.start_of.ensures) in
     let plain : Label = record { day = d; of_day = c.args.tai -ℤ start_units count d } in
     let P : Label → Type 0 = λ l. IsLabelOf count (units c.args.tai) (in_units l) in
     let same : ◌≡◌ {A = Label} plain (record { day = to_z w32 (of_z w32 d); of_day = to_z w128 (of_z w128 c.since.result) }) =
@@ -108,6 +108,6 @@ returns-clause-to c =
     let is = is_day count d c.args.tai c.ranges.tai c.day_of-day.ensures.started c.day_of-day.ensures.not_ended in
     let range = day_range count d c.args.tai counts c.requires.range is.started is.not_ended in
     let second = same_second _ c.args.tai _ c.since.result (start_units count d) c.since.type_inv c.since.ensures
-        (to_z-of_z w128 c.args.tai c.ranges.tai) (same_start count d _ c.start_of.result (same_day d range) c.start_of.type_inv c.start_of.ensures) in
+    (to_z-of_z w128 c.args.tai c.ranges.tai) (same_start count d _ c.start_of.result (same_day d range) c.start_of.type_inv c.start_of.ensures) in
     let P : ℤ → Type 0 = λ z. z <ℤ pos 86_401_000_000_000_000_000_000 in
     subst P (sym second) (passed_below count d c.args.tai (day_lengths c.args.pairs.now d c.requires.table).1 is.not_ended)
