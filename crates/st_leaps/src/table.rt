@@ -90,3 +90,6 @@ fn append(pairs: &mut Vec<LeapPair>, pair: LeapPair) -> Result<(), OutOfMemory>
     pairs.push(pair)?;
     Ok(())
 }
+
+#[cfg(test)]
+mod tests;
