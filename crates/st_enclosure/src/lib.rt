@@ -8,3 +8,4 @@ mod enclosure;
 mod rounding;
 
 pub use enclosure::Enc;
+pub use rounding::UNIT;

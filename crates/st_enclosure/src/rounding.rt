@@ -1,8 +1,8 @@
 ghost use Rattle.std.specs.Prelude.{◌≡◌, pos, neg_ℤ, ◌+◌, ◌*◌, ◌^◌, ◌≤◌, ◌+ℤ◌, ◌-ℤ◌, ◌*ℤ◌, ◌≤ℤ◌, ◌<ℤ◌, unsigned_abs};
 ghost use Rattle.st_enclosure.specs.Ends.{IsOneOf};
 
-/// The units in one.
-pub(crate) const UNIT: i128 = 1_000_000_000_000_000_000;
+/// The units in one: an enclosure's ends count 10^-18.
+pub const UNIT: i128 = 1_000_000_000_000_000_000;
 
 // The greatest whole number at most x / UNIT.
 pub(crate) fn floor_unit(x: i128) -> i128

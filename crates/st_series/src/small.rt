@@ -3,10 +3,7 @@ ghost use Rattle.st_fraction.specs.Fraction.{units};
 ghost use Rattle.st_series.specs.Small.{floor_of, rounded_sum, rounded_square, small_sine, small_cosine};
 ghost use Rattle.st_series.specs.Enclosed.{HasSine, HasCosine};
 
-use st_enclosure::Enc;
-
-/// The units in one.
-const UNIT: i128 = 1_000_000_000_000_000_000;
+use st_enclosure::{Enc, UNIT};
 
 /// What rounding fourteen terms, and leaving out the others, can cost: more than 9/5 units a term after the first, and
 /// one for those left out.

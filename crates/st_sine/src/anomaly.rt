@@ -5,10 +5,7 @@ ghost use Rattle.st_sine.specs.Anomaly.{mean_anomaly, HasAnomalySine};
 
 use crate::angle::sin_cos;
 use crate::orbit::Orbit;
-use st_enclosure::Enc;
-
-/// The units in one.
-const UNIT: i128 = 1_000_000_000_000_000_000;
+use st_enclosure::{Enc, UNIT};
 
 /// How often an angle is halved: 2^11 times 2 rad is beyond the anomaly at every accepted epoch.
 const HALVINGS: u32 = 11;
