@@ -1,12 +1,10 @@
-//! Exact decimals: numbers with a fixed count of decimals, written as text, and the lists of bytes
-//! and names that the crates above exchange.
+//! Exact decimals: how text kernels write them and what they are worth, their count of units of
+//! 10^-18, and their text with a fixed count of decimals; and the lists that the crates exchange.
 #![tactic(auto)]
 
 mod fixed;
-mod kernel_text;
-mod line;
+mod list;
 mod memory;
-mod name_list;
 mod number;
 mod pieces;
 mod place;
@@ -18,10 +16,8 @@ mod value;
 mod zeros;
 
 pub use fixed::put_fixed;
-pub use kernel_text::KText;
-pub use line::Line;
+pub use list::{KText, Line, List, NameList};
 pub use memory::OutOfMemory;
-pub use name_list::NameList;
 pub use number::{Dec, DecFault};
 pub use read::read_dec;
 pub use sign::signed;

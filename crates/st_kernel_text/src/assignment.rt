@@ -1,7 +1,7 @@
 //! One assignment of a kernel.
 
-use crate::value_list::ValueList;
-use st_decimal::KText;
+use crate::value::ValueList;
+use st_decimal::{KText, List};
 
 /// What an assignment does to the values that its variable has.
 #[derive(Clone, Copy, Debug, PartialEq, Eq)]
@@ -19,3 +19,6 @@ pub struct Assignment {
     pub mode: Mode,
     pub values: ValueList,
 }
+
+/// Assignments in order.
+pub type AssignmentList = List<Assignment>;

@@ -41,12 +41,7 @@ impl Kernel {
 
 /// Reads one line, without its end.
 #[tactic(auto, unfolding(crate::specs::LinesMachine::line_of))]
-pub fn read_line(
-    alloc: Global,
-    kernel: &mut Kernel,
-    number: u64,
-    line: &[u8],
-) -> Result<(), TextFault>
+pub fn read_line(kernel: &mut Kernel, number: u64, line: &[u8]) -> Result<(), TextFault>
     ensures { Gives kernel.new result (line_of kernel.old number line.now) }
 {
     if line.len() > MOST_BYTES {
@@ -63,25 +58,25 @@ pub fn read_line(
     if !kernel.reading {
         return Ok(());
     }
-    read_data(alloc, kernel, number, line)
+    read_data(kernel, number, line)
 }
 
-fn read_data(alloc: Global, kernel: &mut Kernel, number: u64, line: &[u8]) -> Result<(), TextFault>
+fn read_data(kernel: &mut Kernel, number: u64, line: &[u8]) -> Result<(), TextFault>
     ensures { Gives kernel.new result (machine.data_of kernel.old number line.now) }
 {
     if !are_allowed(line) {
         return Err(fault(number, TextCause::BadByte));
     }
-    read_bytes(alloc, &mut kernel.parser, number, line)?;
-    step(alloc, &mut kernel.parser, number, b'\n')?;
+    read_bytes(&mut kernel.parser, number, line)?;
+    step(&mut kernel.parser, number, b'\n')?;
     Ok(())
 }
 
-fn read_bytes(alloc: Global, parser: &mut Parser, number: u64, line: &[u8]) -> Result<(), TextFault>
+fn read_bytes(parser: &mut Parser, number: u64, line: &[u8]) -> Result<(), TextFault>
     ensures { Gives parser.new result (steps_of parser.old (numbered number line.now)) }
 {
     for byte in line {
-        step(alloc, parser, number, *byte)?;
+        step(parser, number, *byte)?;
     }
     Ok(())
 }

@@ -3,12 +3,11 @@
 //!
 //! What a file reads to, and which fault it has, is said in `specs/`: `File` by lines, `Grammar` and
 //! `Values` by spellings, `Faults` by the token that breaks. `read_kernel` answers that and nothing
-//! else. The reader takes a file line by line and a data line byte by byte; what it has so far is a
-//! value, so that a file may as well come in pieces.
+//! else, or `OutOfMemory` where memory is refused. The reader takes a file line by line and a data line
+//! byte by byte.
 #![tactic(auto)]
 
 mod assignment;
-mod assignment_list;
 mod bytes;
 mod fault;
 mod kernel;
@@ -18,12 +17,9 @@ mod parser;
 mod reading;
 mod steps;
 mod value;
-mod value_list;
 mod values;
 
-pub use assignment::{Assignment, Mode};
-pub use assignment_list::AssignmentList;
+pub use assignment::{Assignment, AssignmentList, Mode};
 pub use fault::{TextCause, TextFault};
 pub use reading::read_kernel;
-pub use value::Value;
-pub use value_list::ValueList;
+pub use value::{Value, ValueList};

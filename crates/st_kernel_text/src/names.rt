@@ -8,9 +8,7 @@ use crate::assignment::Mode;
 use crate::bytes::{is_name_byte, is_space};
 use crate::fault::{TextCause, TextFault};
 use crate::parser::{Parser, Stage, fault};
-use st_decimal::KText;
 use st_text::is_blank;
-use std::alloc::Global;
 
 /// The most bytes of a name.
 const MOST_BYTES: usize = 32;
@@ -37,38 +35,28 @@ fn push_name(p: &mut Parser, byte: u8) -> Result<(), TextFault>
 }
 
 /// A byte behind the first of a name.
-pub fn on_name(alloc: Global, p: &mut Parser, line: u64, byte: u8) -> Result<(), TextFault>
+pub fn on_name(p: &mut Parser, line: u64, byte: u8) -> Result<(), TextFault>
     ensures { Gives p.new result (machine.name_of p.old line byte) }
 {
     if is_name_byte(byte) {
         push_name(p, byte)
     } else if byte == b'=' && ends_in_plus(p.name.as_slice()) {
-        end_added(alloc, p, line)
+        end_added(p, line)
     } else {
         end_name(p, line, byte)
     }
 }
 
 /// A `=` behind a name's last byte `+`, which is the sign's.
-fn end_added(alloc: Global, p: &mut Parser, line: u64) -> Result<(), TextFault>
+fn end_added(p: &mut Parser, line: u64) -> Result<(), TextFault>
     ensures { Gives p.new result (machine.added_of p.old line) }
 {
-    let name = KText::from_slice(alloc, without_last(p.name.as_slice()))?;
-    if !is_name(name.as_slice()) {
+    p.name.pop();
+    if !is_name(p.name.as_slice()) {
         return Err(fault(line, TextCause::NoName));
     }
-    p.name = name;
     sign(p, Mode::Add, line);
     Ok(())
-}
-
-fn without_last(name: &[u8]) -> &[u8]
-    ensures { result.now ≡ machine.without_last name.now }
-{
-    match name {
-        [front @ .., _] => front,
-        [] => name,
-    }
 }
 
 fn end_name(p: &mut Parser, line: u64, byte: u8) -> Result<(), TextFault>

@@ -4,13 +4,11 @@ ghost use Rattle.std.specs.Prelude.{◌≡◌, []};
 ghost use Rattle.st_kernel_text.specs.ParserMachine as machine;
 ghost use Rattle.st_kernel_text.specs.ParserMachine.{Gives, Answers, fresh, finish_of};
 
-use crate::assignment::{Assignment, Mode};
-use crate::assignment_list::AssignmentList;
+use crate::assignment::{Assignment, AssignmentList, Mode};
 use crate::fault::{TextCause, TextFault};
-use crate::value_list::ValueList;
+use crate::value::ValueList;
 use st_decimal::KText;
 use std::alloc::Global;
-use std::mem;
 
 /// What the bytes before have left off at.
 #[derive(Clone, Copy, Debug)]
@@ -72,13 +70,14 @@ impl Parser {
     }
 
     /// Keeps the assignment that is at its end, and begins anew behind it.
-    pub fn keep(&mut self, alloc: Global) -> Result<(), TextFault>
+    pub fn keep(&mut self) -> Result<(), TextFault>
         ensures { Gives self.new result (Ok (machine.kept self.old)) }
     {
-        let name = mem::replace(&mut self.name, KText::new(alloc));
-        let values = mem::replace(&mut self.values, ValueList::new(alloc));
+        let name = self.name.take();
+        let values = self.values.take();
         let mode = self.mode;
         self.done.push(Assignment { name, mode, values })?;
+        // The parser is as it was before the first byte, but for what is done.
         self.stage = Stage::Fresh;
         self.mode = Mode::Set;
         self.sign = 0;

@@ -8,7 +8,7 @@ ghost use Rattle.st_kernel_text.specs.ParserMachine.{Answers, Gives};
 ghost use Rattle.st_kernel_text.specs.declared.assignment.Assignment.{Assignment as Item};
 ghost use Rattle.st_kernel_text.specs.declared.fault.TextFault.{TextFault as Fault};
 
-use crate::assignment_list::AssignmentList;
+use crate::assignment::AssignmentList;
 use crate::fault::TextFault;
 use crate::kernel::{Kernel, read_line};
 use st_text::{split_line, without_cr};
@@ -30,19 +30,19 @@ fn read(alloc: Global, bytes: &[u8]) -> Result<AssignmentList, TextFault>
     ensures { Answers result (read_of bytes.now) }
 {
     let mut kernel = Kernel::new(alloc);
-    read_lines(alloc, &mut kernel, bytes)?;
+    read_lines(&mut kernel, bytes)?;
     kernel.parser.finish()
 }
 
 /// Reads all lines of a file.
-fn read_lines(alloc: Global, kernel: &mut Kernel, bytes: &[u8]) -> Result<(), TextFault>
+fn read_lines(kernel: &mut Kernel, bytes: &[u8]) -> Result<(), TextFault>
     ensures { Gives kernel.new result (lines_from kernel.old 1 (lines_of bytes.now)) }
 {
     let mut number = 1;
     let mut rest = bytes;
     while !rest.is_empty() {
         let (line, after) = split_line(rest);
-        read_line(alloc, kernel, number, without_cr(line))?;
+        read_line(kernel, number, without_cr(line))?;
         number += 1;
         rest = after;
     }
@@ -54,8 +54,7 @@ mod tests {
     use super::*;
     use crate::fault::TextCause;
     use crate::value::Value;
-    use crate::value_list::ValueList;
-    use crate::{Assignment, Mode};
+    use crate::{Assignment, Mode, ValueList};
     use st_decimal::Dec;
     use std::test::Fail;
 

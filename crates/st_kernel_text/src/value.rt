@@ -1,6 +1,6 @@
 //! The values that a kernel assigns.
 
-use st_decimal::{Dec, KText};
+use st_decimal::{Dec, KText, List};
 
 /// A value of an assignment.
 #[derive(Debug, Drop)]
@@ -10,3 +10,6 @@ pub enum Value {
     /// A string, without its quotes.
     Text(KText),
 }
+
+/// Values in order.
+pub type ValueList = List<Value>;

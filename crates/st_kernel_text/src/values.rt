@@ -10,12 +10,8 @@ use crate::bytes::{is_run_byte, is_separator, is_space};
 use crate::fault::{TextCause, TextFault};
 use crate::number::{cause_of_run, read_run};
 use crate::parser::{Parser, Stage, fault};
-use crate::value::Value;
-use crate::value_list::ValueList;
-use st_decimal::KText;
+use crate::value::{Value, ValueList};
 use st_text::is_blank;
-use std::alloc::Global;
-use std::mem;
 
 /// The most bytes of a string, each quote in it counted once.
 const MOST_BYTES: usize = 80;
@@ -84,7 +80,7 @@ fn close(p: &mut Parser, line: u64) -> Result<(), TextFault>
 }
 
 /// A byte in a number or a date.
-pub fn on_run(alloc: Global, p: &mut Parser, line: u64, byte: u8) -> Result<(), TextFault>
+pub fn on_run(p: &mut Parser, line: u64, byte: u8) -> Result<(), TextFault>
     ensures { Gives p.new result (machine.run_of p.old line byte) }
 {
     if is_run_byte(byte) {
@@ -92,15 +88,15 @@ pub fn on_run(alloc: Global, p: &mut Parser, line: u64, byte: u8) -> Result<(), 
     } else if byte == b'(' || byte == b'\'' {
         Err(fault(line, cause_of_run(p.run.as_slice())))
     } else {
-        end_run(alloc, p, line, byte)
+        end_run(p, line, byte)
     }
 }
 
-fn end_run(alloc: Global, p: &mut Parser, line: u64, byte: u8) -> Result<(), TextFault>
+fn end_run(p: &mut Parser, line: u64, byte: u8) -> Result<(), TextFault>
     ensures { Gives p.new result (machine.taken_of (values.number_of_run p.old.run) p.old line byte) }
 {
     match read_run(p.run.as_slice()) {
-        Some(number) => put(alloc, p, Value::Number(number), line, byte),
+        Some(number) => put(p, Value::Number(number), line, byte),
         None => Err(fault(line, cause_of_run(p.run.as_slice()))),
     }
 }
@@ -132,29 +128,29 @@ fn push_quoted(p: &mut Parser, line: u64, byte: u8) -> Result<(), TextFault>
 }
 
 /// A byte behind a `'` in a string.
-pub fn on_quote(alloc: Global, p: &mut Parser, line: u64, byte: u8) -> Result<(), TextFault>
+pub fn on_quote(p: &mut Parser, line: u64, byte: u8) -> Result<(), TextFault>
     ensures { Gives p.new result (machine.quote_of p.old line byte) }
 {
     if byte == b'\'' {
         push_quoted(p, line, byte)
     } else if is_separator(byte) || byte == b')' {
-        end_quoted(alloc, p, line, byte)
+        end_quoted(p, line, byte)
     } else {
         Err(fault(line, TextCause::BadString))
     }
 }
 
 #[tactic(auto, unfolding(crate::specs::ParserMachine::put_of))]
-fn end_quoted(alloc: Global, p: &mut Parser, line: u64, byte: u8) -> Result<(), TextFault>
+fn end_quoted(p: &mut Parser, line: u64, byte: u8) -> Result<(), TextFault>
     ensures { Gives p.new result (machine.put_of p.old (Value.Text p.old.run) line byte) }
 {
-    let text = mem::replace(&mut p.run, KText::new(alloc));
-    put(alloc, p, Value::Text(text), line, byte)
+    let text = p.run.take();
+    put(p, Value::Text(text), line, byte)
 }
 
 /// Takes a value, and the byte behind it.
 #[tactic(auto, unfolding(crate::specs::ParserMachine::put_of))]
-fn put(alloc: Global, p: &mut Parser, value: Value, line: u64, byte: u8) -> Result<(), TextFault>
+fn put(p: &mut Parser, value: Value, line: u64, byte: u8) -> Result<(), TextFault>
     ensures { Gives p.new result (machine.put_of p.old value line byte) }
 {
     if !fits(&p.values, &value) {
@@ -162,7 +158,7 @@ fn put(alloc: Global, p: &mut Parser, value: Value, line: u64, byte: u8) -> Resu
     }
     p.values.push(value)?;
     p.run.clear();
-    after(alloc, p, line, byte)
+    after(p, line, byte)
 }
 
 /// Whether a value has the kind of the first of those before it.
@@ -185,7 +181,7 @@ fn is_same_kind(a: &Value, b: &Value) -> bool
 }
 
 /// The byte behind a value.
-fn after(alloc: Global, p: &mut Parser, line: u64, byte: u8) -> Result<(), TextFault>
+fn after(p: &mut Parser, line: u64, byte: u8) -> Result<(), TextFault>
     ensures { Gives p.new result (machine.after_of p.old line byte) }
 {
     match p.opened {
@@ -195,17 +191,17 @@ fn after(alloc: Global, p: &mut Parser, line: u64, byte: u8) -> Result<(), TextF
         }
         None => {
             p.stage = Stage::Closed;
-            on_closed(alloc, p, line, byte)
+            on_closed(p, line, byte)
         }
     }
 }
 
 /// A byte behind the last value of an assignment.
-pub fn on_closed(alloc: Global, p: &mut Parser, line: u64, byte: u8) -> Result<(), TextFault>
+pub fn on_closed(p: &mut Parser, line: u64, byte: u8) -> Result<(), TextFault>
     ensures { Gives p.new result (machine.closed_of p.old line byte) }
 {
     if byte == b'\n' {
-        p.keep(alloc)
+        p.keep()
     } else if is_blank(byte) {
         Ok(())
     } else {
