@@ -1,6 +1,6 @@
 -- The digits of a number, one digit more at a time from the last.
-use Rattle.std.proofs.Common.{◌≡◌, ℕ, ◌+◌, ◌-◌, ◌/◌, ◌%◌, ◌^◌, ◌<◌, ◌≤◌, zero, suc, List, [], ◌∷◌, ◌++◌, ◌⊎◌, inl, inr, length, map, replicate, drop, set, sym, ◌∙◌, ap, arith, append_assoc, add-one}
-use Rattle.std.proofs.lemmas.List.{append-nil, map-append, replicate_more, drop-set}
+use Rattle.std.proofs.Common.{◌≡◌, ℕ, ◌+◌, ◌-◌, ◌/◌, ◌%◌, ◌^◌, ◌<◌, ◌≤◌, zero, suc, List, [], ◌∷◌, ◌++◌, ◌⊎◌, inl, inr, length, map, replicate, take, drop, set, sym, ◌∙◌, ap, arith, append_assoc, add-one}
+use Rattle.std.proofs.lemmas.List.{append-nil, map-append, replicate_more, drop-set, take-set, take-take}
 use Rattle.std.proofs.lemmas.Int.Digits.{digits_of_step, length-digits_of_step, length-digits_of-le}
 use Rattle.std.specs.Int.Digits.{digits_of}
 use Rattle.st_text.specs.Bytes.{padded}
@@ -77,6 +77,14 @@ pub begun : (width number end : ℕ) (buffer : List ℕ) → padded (width - (en
 begun width number end buffer =
     let none : width - (end - end) ≡ width = omega arith in
     ap (λ (k : ℕ). padded k number ++ drop end buffer) none
+
+-- what stands before the digits stays
+pub kept_before : (buffer old : List ℕ) (at glyph : ℕ) → take at buffer ≡ take at old → take (at - 1) (set buffer (at - 1) glyph) ≡ take (at - 1) old
+kept_before buffer old at glyph kept =
+    take-set buffer (at - 1) glyph
+    ∙ sym (take-take (at - 1) at buffer (omega arith))
+    ∙ ap (take (at - 1)) kept
+    ∙ take-take (at - 1) at old (omega arith)
 
 pub digits_at_most : (n : ℕ) → n < 2 ^ 128 → length (digits_of 10 n) ≤ 39
 digits_at_most n h = length-digits_of-le 10 39 n (omega arith) (omega arith)

@@ -1,6 +1,6 @@
 //! The lines of a file: a line ends at a line feed or at the end of the file.
 
-ghost use Rattle.std.specs.Prelude.{◌≡◌, ◌<◌, ◌==◌, ◌∷◌, length, position};
+ghost use Rattle.std.specs.Prelude.{◌≡◌, ◌<◌, ◌==◌, ◌∷◌, ◌+◌, length, drop, position};
 ghost use Rattle.st_text.specs.Lines as lines;
 ghost use Rattle.st_text.specs.Lines.{raw_lines};
 
@@ -10,6 +10,7 @@ ghost use Rattle.st_text.specs.Lines.{raw_lines};
 pub fn split_line(bytes: &[u8]) -> (&[u8], &[u8])
     requires { 0 < length bytes.now }
     ensures first { raw_lines bytes.now ≡ result.0.now ∷ raw_lines result.1.now }
+    ensures rest { result.1.now ≡ drop (length result.0.now + 1) bytes.now }
     ensures less { length result.1.now < length bytes.now }
 {
     match line_end(bytes) {

@@ -1,6 +1,6 @@
 //! Decimal digits that are written for a number.
 
-ghost use Rattle.std.specs.Prelude.{◌≡◌, ◌+◌, ◌≤◌, ◌++◌, length, drop, OnOk, OnErr};
+ghost use Rattle.std.specs.Prelude.{◌≡◌, ◌+◌, ◌≤◌, ◌++◌, length, take, drop, OnOk, OnErr};
 ghost use Rattle.st_text.specs.Bytes.{padded};
 
 use std::alloc::AllocError;
@@ -17,6 +17,7 @@ pub fn write_padded(buffer: &mut [u8], end: usize, number: u128, width: usize) -
     requires room { MOST_DIGITS ≤ end }
     requires width { width ≤ MOST_DIGITS }
     ensures written { drop result buffer.new ≡ padded width number ++ drop end buffer.old }
+    ensures kept { take result buffer.new ≡ take result buffer.old }
     ensures before { result ≤ end }
     ensures few { end ≤ result + MOST_DIGITS }
 {

@@ -1,11 +1,12 @@
-use Rattle.std.proofs.Common.{arith, ◌<◌, inl, inr}
-use Rattle.st_text.proofs.Padded.{padded_more, room_more, digit_begun, zero_room, begun, digits_at_most}
+use Rattle.std.proofs.Common.{arith, ◌<◌, inl, inr, refl}
+use Rattle.st_text.proofs.Padded.{padded_more, room_more, digit_begun, zero_room, begun, kept_before, digits_at_most}
 use Rattle.st_text.proofs.spelling.write_padded.Goals as goal
 use Rattle.st_text.proofs.spelling.write_padded.Goals.{then-rest-gt0, else-rest-gt0+then-end-at}
 
 pub loop-rest-init : goal.loop-rest-init
 loop-rest-init c = record {
   written = begun c.args.width c.args.number c.args.end c.args.buffer.now;
+  kept = refl;
   before = omega arith;
   room = omega (arith, digits_at_most c.args.number (omega arith));
 }
@@ -31,6 +32,7 @@ loop-rest-preserved c =
           let some : 0 < c.loop-rest.at = omega (arith, digit_begun c.loop-rest.rest (omega arith)) in
           record {
             written = padded_more c.args.width c.args.end c.loop-rest.at c.loop-rest.rest c.loop-rest.buffer _ some (omega arith) (omega arith) (inl (omega arith)) c.loop-rest.invariant.written;
+            kept = kept_before c.loop-rest.buffer c.args.buffer.now c.loop-rest.at _ c.loop-rest.invariant.kept;
             before = omega arith;
             room = room_more c.args.end c.loop-rest.at c.loop-rest.rest (omega arith) some (omega arith) (omega arith);
           }
@@ -38,6 +40,7 @@ loop-rest-preserved c =
           let some : 0 < c.loop-rest.at = omega arith in
           record {
             written = padded_more c.args.width c.args.end c.loop-rest.at c.loop-rest.rest c.loop-rest.buffer _ some (omega arith) (omega arith) (inr (omega arith)) c.loop-rest.invariant.written;
+            kept = kept_before c.loop-rest.buffer c.args.buffer.now c.loop-rest.at _ c.loop-rest.invariant.kept;
             before = omega arith;
             room = zero_room c.args.end c.loop-rest.at c.loop-rest.rest c.args.width (omega arith) some (omega arith) (omega arith) (omega arith);
           }
