@@ -4,7 +4,7 @@ use Rattle.std.proofs.lemmas.Bool.{cases_Bool}
 use Rattle.std.proofs.lemmas.Bool.Decides.{nat_tests}
 use Rattle.std.specs.Char.{is_ascii_digit}
 use Rattle.st_text.specs.Bytes.{number_of}
-use Rattle.st_dates.specs.DayText.{DayText, numeric, named, day_first, of_year, day_spelling, AreDayParts}
+use Rattle.st_dates.specs.DayText.{DayText, numeric, named, day_first, of_year, day_spelling, AreDayParts, NamesDate}
 use Rattle.st_dates.specs.DayTextMachine.{is_no_dash, month_of_name, with_day, with_year, year_first, month_next, day_of_text, number_in}
 use Rattle.st_dates.specs.Names.{NamesMonth}
 use Rattle.st_dates.specs.NamesMachine.{month_named}
@@ -24,6 +24,7 @@ pub record Cut (text rest : List ℕ) (date : CalendarDate) : Type 0 where
   pub parts : AreDayParts day
   pub whole : text ≡ day_spelling day ++ rest
   pub same : number_in date ≡ day_in day
+  pub names : NamesDate day date
 
 record DayCut (y m : ℕ) (text : List ℕ) (p : CalendarDate × List ℕ) : Type 0 where
   day : List ℕ
@@ -109,6 +110,7 @@ named_cut year text q p h month day = record {
   parts = (h, (q.0, month.named_by), day.day_digits);
   whole = glued_three year month.name day.day p.1 text q.1 month.whole day.whole;
   same = ap number_in day.date_is ∙ rw (only month.name q.0 month.named_by) refl;
+  names = (q.0, month.named_by, day.date_is);
 }
 
 numeric_cut : (year month text mid : List ℕ) (p : CalendarDate × List ℕ) → IsDigitRun 4 4 year → IsDigitRun 1 2 month → text ≡ month ++ (45 ∷ mid) → DayCut (number_of year) (number_of month) mid p → Cut (year ++ (45 ∷ text)) p.1 p.0
@@ -118,6 +120,7 @@ numeric_cut year month text mid p h k e day = record {
   parts = (h, k, day.day_digits);
   whole = glued_three year month day.day p.1 text mid e day.whole;
   same = ap number_in day.date_is;
+  names = day.date_is;
 }
 
 of_year_cut : (year text : List ℕ) (p : CalendarDate × List ℕ) → IsDigitRun 4 4 year → length (leading_digits text) ≡ 3 → ◌≡◌ {A = CalendarDate × List ℕ} (OfYear (number_of year) (number_of (leading_digits text)), past_digits text) p → Cut (year ++ (45 ∷ text)) p.1 p.0
@@ -127,6 +130,7 @@ of_year_cut year text p h three same = record {
   parts = (h, counted 3 text three);
   whole = glued_two year (leading_digits text) p.1 text (sym (joined is_ascii_digit text) ∙ ap (λ (q : CalendarDate × List ℕ). leading_digits text ++ q.1) same);
   same = ap (λ (q : CalendarDate × List ℕ). number_in q.0) (sym same);
+  names = ap (λ (q : CalendarDate × List ℕ). q.0) (sym same);
 }
 
 day_first_cut : (day text : List ℕ) (q : ℕ × List ℕ) (p : CalendarDate × List ℕ) → IsDigitRun 1 2 day → MonthCut text q → YearCut q.0 (number_of day) q.1 p → Cut (day ++ (45 ∷ text)) p.1 p.0
@@ -136,6 +140,7 @@ day_first_cut day text q p h month year = record {
   parts = (h, (q.0, month.named_by), year.year_digits);
   whole = glued_three day month.name year.year p.1 text q.1 month.whole year.whole;
   same = ap number_in year.date_is ∙ rw (only month.name q.0 month.named_by) refl;
+  names = (q.0, month.named_by, year.date_is);
 }
 
 -- the text behind digits and a byte
@@ -176,7 +181,7 @@ month_next_cut day text p h e =
 
 -- the same of a text that is equal
 of_equal : (a b rest : List ℕ) (date : CalendarDate) → a ≡ b → Cut b rest date → Cut a rest date
-of_equal a b rest date e c = record { day = c.day; parts = c.parts; whole = e ∙ c.whole; same = c.same }
+of_equal a b rest date e c = record { day = c.day; parts = c.parts; whole = e ∙ c.whole; same = c.same; names = c.names }
 
 pub day_cut : (text : List ℕ) (p : CalendarDate × List ℕ) → day_of_text text ≡ Some p → Cut text p.1 p.0
 unfolding day_of_text

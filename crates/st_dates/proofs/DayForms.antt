@@ -4,7 +4,7 @@ use Rattle.std.specs.Char.{is_ascii_digit}
 use Rattle.st_text.specs.Bytes.{number_of}
 use Rattle.st_text.specs.Scan.{IsDigitRun}
 use Rattle.st_dates.specs.CalendarMachine.{calendar_day, day_in_year}
-use Rattle.st_dates.specs.DayText.{DayText, numeric, named, day_first, of_year, day_spelling, AreDayParts, IsDayOf}
+use Rattle.st_dates.specs.DayText.{DayText, numeric, named, day_first, of_year, day_spelling, AreDayParts, IsDayOf, NamesDate}
 use Rattle.st_dates.specs.DayTextMachine.{is_no_dash, month_of_name, with_day, with_year, year_first, month_next, day_of_text, number_in}
 use Rattle.st_dates.specs.Names.{NamesMonth}
 use Rattle.st_dates.specs.NamesMachine.{month_named}
@@ -101,6 +101,7 @@ pub record Finds (text rest : List ℕ) (w : DayText) : Type 0 where
   pub date : CalendarDate
   pub read : day_of_text text ≡ Some (date, rest)
   pub same : number_in date ≡ day_in w
+  pub names : NamesDate w date
 
 three_apart : (a b c rest : List ℕ) → (a ++ (45 ∷ (b ++ (45 ∷ c)))) ++ rest ≡ a ++ (45 ∷ (b ++ (45 ∷ (c ++ rest))))
 three_apart a b c rest = simp append_assoc
@@ -114,19 +115,23 @@ day_read (numeric year month day) rest (hy, hm, hd) s = record {
   date = OfMonth (number_of year) (number_of month) (number_of day);
   read = ap day_of_text (three_apart year month day rest) ∙ year_then year (month ++ (45 ∷ (day ++ rest))) hy ∙ numeric_read (number_of year) month day rest hm hd s;
   same = refl;
+  names = refl;
 }
 day_read (named year name day) rest (hy, hm, hd) s = record {
   date = OfMonth (number_of year) hm.0 (number_of day);
   read = ap day_of_text (three_apart year name day rest) ∙ year_then year (name ++ (45 ∷ (day ++ rest))) hy ∙ named_read (number_of year) name day rest hm.0 hm.1 hd s;
   same = rw (only name hm.0 hm.1) refl;
+  names = (hm.0, hm.1, refl);
 }
 day_read (day_first day name year) rest (hd, hm, hy) s = record {
   date = OfMonth (number_of year) hm.0 (number_of day);
   read = ap day_of_text (three_apart day name year rest) ∙ day_then day (name ++ (45 ∷ (year ++ rest))) hd ∙ day_first_read (number_of day) name year rest hm.0 hm.1 hy s;
   same = rw (only name hm.0 hm.1) refl;
+  names = (hm.0, hm.1, refl);
 }
 day_read (of_year year place) rest (hy, hp) s = record {
   date = OfYear (number_of year) (number_of place);
   read = ap day_of_text (two_apart year place rest) ∙ year_then year (place ++ rest) hy ∙ of_year_read (number_of year) place rest hp s;
   same = refl;
+  names = refl;
 }

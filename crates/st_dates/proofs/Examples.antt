@@ -5,7 +5,7 @@ use Rattle.st_dates.specs.AtDateMachine.{parts_of}
 use Rattle.st_dates.specs.DayTextMachine.{month_of_name, with_day, with_year, year_first, month_next, day_of_text}
 use Rattle.st_dates.specs.NamesMachine.{month_from}
 use Rattle.st_text.specs.Scan.{leading, behind, after, is_digit_run}
-use Rattle.st_dates.specs.TimeTextMachine.{field, decimal_units, second_units, clock_of, past_slash, past_mark, time_of_text}
+use Rattle.st_dates.specs.TimeTextMachine.{field, decimal_units, seconds_of, clock_of, past_slash, past_mark, time_of_text}
 use Rattle.st_dates.specs.declared.day_text.CalendarDate.TheVariants.{OfMonth, OfYear}
 
 record Texts : Type 0 where
@@ -16,5 +16,5 @@ record Texts : Type 0 where
   late_hour : parts_of (codes "2000-1-1T24:00") ≡ None
 
 texts : Texts
-unfolding parts_of month_of_name with_day with_year year_first month_next day_of_text month_from leading behind after is_digit_run field decimal_units second_units clock_of past_slash past_mark time_of_text
+unfolding parts_of month_of_name with_day with_year year_first month_next day_of_text month_from leading behind after is_digit_run field decimal_units seconds_of clock_of past_slash past_mark time_of_text
 texts = record { numeric = refl; named = refl; day_first = refl; of_year = refl; late_hour = refl }

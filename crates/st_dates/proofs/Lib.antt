@@ -1,9 +1,12 @@
 pub mod CalendarLaws
 pub mod CivilLaws
+pub mod ClockCuts
+pub mod ClockForms
 pub mod DateLaws
 pub mod DayCuts
 pub mod DayForms
 pub mod DayLemmas
+pub mod DayReads
 pub mod DecimalLaws
 mod Examples
 pub mod NameLaws

@@ -1,10 +1,13 @@
 -- The day of a date as it is written. Source: Time Required Reading, of whose forms four are taken: a
 -- year of four digits with a month's number, its name, or the place of the day in its year.
-use Rattle.std.specs.Prelude.{◌≡◌, ℕ, List, ◌∷◌, ◌++◌, ℤ}
+use Rattle.std.specs.Prelude.{◌≡◌, ℕ, false, List, [], ◌∷◌, ◌++◌, ℤ}
+use Rattle.std.specs.Char.{is_ascii_digit}
 use Rattle.st_text.specs.Bytes.{number_of}
 use Rattle.st_text.specs.Scan.{IsDigitRun}
 use Rattle.st_dates.specs.Calendar.{IsCalendarDay, IsDayOfYear, day_number, number_in_year}
 use Rattle.st_dates.specs.Names.{NamesMonth}
+use Rattle.st_dates.specs.declared.day_text.CalendarDate.{CalendarDate}
+use Rattle.st_dates.specs.declared.day_text.CalendarDate.TheVariants.{OfMonth, OfYear}
 
 -- the parts of a day as they stand in the text, one case for each form
 pub data DayText : Type 0 where
@@ -49,3 +52,27 @@ IsDayOf (day_first day name year) n =
 IsDayOf (of_year year place) n =
     IsDayOfYear (number_of year) (number_of place)
     × (n ≡ number_in_year (number_of year) (number_of place))
+
+-- the date that a written day names, whether the calendar has it or not
+abbrev pub NamesDate : DayText → CalendarDate → Type 0
+NamesDate (numeric year month day) date =
+    date ≡ OfMonth (number_of year) (number_of month) (number_of day)
+NamesDate (named year name day) date =
+    (m : ℕ) × NamesMonth name m × (date ≡ OfMonth (number_of year) m (number_of day))
+NamesDate (day_first day name year) date =
+    (m : ℕ) × NamesMonth name m × (date ≡ OfMonth (number_of year) m (number_of day))
+NamesDate (of_year year place) date = date ≡ OfYear (number_of year) (number_of place)
+
+-- the text begins with a day, which names this date, and this follows it
+abbrev pub BeginsWithDay : List ℕ → CalendarDate → List ℕ → Type 0
+BeginsWithDay text date rest =
+    (day : DayText) × AreDayParts day × (text ≡ day_spelling day ++ rest) × NamesDate day date
+
+abbrev pub BeginsNoDigit : List ℕ → Type 0
+BeginsNoDigit [] = Unit {0}
+BeginsNoDigit (b ∷ t) = is_ascii_digit b ≡ false
+
+-- the calendar has the date, and n is its day number
+abbrev pub IsDayNumber : CalendarDate → ℤ → Type 0
+IsDayNumber (OfMonth y m d) n = IsDateOf y m d n
+IsDayNumber (OfYear y place) n = IsDayOfYear y place × (n ≡ number_in_year y place)

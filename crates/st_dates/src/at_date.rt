@@ -7,7 +7,7 @@ ghost use Rattle.st_dates.specs.AtDateMachine.{at_date_of};
 ghost use Rattle.st_dates.specs.declared.fault.DateFault.{DateFault as Fault};
 
 use crate::DateFault;
-use crate::day_text::{number_of, read_day};
+use crate::day_text::read_day;
 use crate::label::{is_ranged, midnight_of};
 use crate::time_text::read_time;
 
@@ -36,7 +36,7 @@ fn read(text: &[u8]) -> Result<i128, DateFault>
     let Some(units) = read_time(rest) else {
         return Err(DateFault::Form);
     };
-    match number_of(date) {
+    match date.day() {
         Some(day) => ranged(moment_of(day, units)),
         None => Err(DateFault::NoSuchDay),
     }

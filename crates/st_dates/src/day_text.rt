@@ -1,16 +1,18 @@
 //! The day of a date, as four forms write it.
 
-ghost use Rattle.std.specs.Prelude.{◌≡◌, ◌≤◌, length, MatchOption, IfSome};
+ghost use Rattle.std.specs.Prelude.{◌≡◌, ℤ, List, ℕ, ◌≤◌, length, Some, MatchOption, IfSome};
 ghost use Rattle.std.specs.List.{prefix_len};
 ghost use Rattle.st_text.specs.Scan.{leading, behind};
+ghost use Rattle.st_dates.specs.DayText.{BeginsWithDay, BeginsNoDigit, IsDayNumber};
 ghost use Rattle.st_dates.specs.DayTextMachine as machine;
-ghost use Rattle.st_dates.specs.DayTextMachine.{month_of_name, is_no_dash, HasFourDigits};
+ghost use Rattle.st_dates.specs.DayTextMachine.{month_of_name, number_in, is_no_dash, HasFourDigits};
+ghost use Rattle.st_dates.specs.declared.day_text.CalendarDate.{CalendarDate as Date};
 
 use crate::{day_of, day_of_doy, month_of};
 use st_text::{after, is_digit_run, read_digits, split_digits};
 
 /// A date as a text names it, whether the calendar has it or not.
-#[derive(Clone, Copy, Debug)]
+#[derive(Clone, Copy, Debug, PartialEq, Eq, Hash)]
 pub enum CalendarDate {
     /// A day of a month.
     OfMonth { year: u32, month: u32, day: u32 },
@@ -18,9 +20,21 @@ pub enum CalendarDate {
     OfYear { year: u32, place: u32 },
 }
 
-/// The day with which a text begins, and the rest of the text.
+/// The date with which a text begins, and the rest of the text: one of `YYYY-MM-DD`, `YYYY-MON-D`,
+/// `D-MON-YYYY` and `YYYY-DOY`, whether the calendar has it or not.
+pub fn read_day(text: &[u8]) -> Option<(CalendarDate, &[u8])>
+    ensures reads { IfSome result (λ p. BeginsWithDay text.now p.0 p.1.now) }
+    ensures only { (date : Date) (rest : List ℕ) → BeginsWithDay text.now date rest → BeginsNoDigit rest
+        → MatchOption result ⊥ (λ p. (p.0 ≡ date) × (p.1.now ≡ rest)) }
+    ensures year { IfSome result (λ p. HasFourDigits p.0) }
+    ensures exact { MatchOption result (machine.day_of_text text.now ≡ None)
+        (λ p. machine.day_of_text text.now ≡ Some (p.0, p.1.now)) }
+{
+    find_day(text)
+}
+
 #[tactic(auto, unfolding(crate::specs::DayTextMachine::day_of_text))]
-pub(crate) fn read_day(text: &[u8]) -> Option<(CalendarDate, &[u8])>
+fn find_day(text: &[u8]) -> Option<(CalendarDate, &[u8])>
     ensures value { MatchOption result (machine.day_of_text text.now ≡ None)
         (λ p. machine.day_of_text text.now ≡ Some (p.0, p.1.now)) }
     ensures year { IfSome result (λ p. HasFourDigits p.0) }
@@ -129,11 +143,23 @@ fn with_year(month: u32, day: u32, text: &[u8]) -> Option<(CalendarDate, &[u8])>
     Some((CalendarDate::OfMonth { year, month, day }, rest))
 }
 
-/// The day number of a date, or `None` where the calendar has no such day.
+impl CalendarDate {
+    /// The days from 2000-01-01 to the date, or `None` where the calendar has no such day. The year has
+    /// at most four digits.
+    pub fn day(self) -> Option<i32>
+        requires { HasFourDigits self }
+        ensures some { IfSome result (IsDayNumber self) }
+        ensures only { (n : ℤ) → IsDayNumber self n → result ≡ Some n }
+        ensures exact { result ≡ number_in self }
+    {
+        find_number(self)
+    }
+}
+
 #[tactic(auto, using(crate::proofs::DayLemmas::year_as_i32), unfolding(crate::specs::DayTextMachine::number_in))]
-pub(crate) fn number_of(date: CalendarDate) -> Option<i32>
+fn find_number(date: CalendarDate) -> Option<i32>
     requires { HasFourDigits date }
-    ensures { result ≡ machine.number_in date }
+    ensures { result ≡ number_in date }
 {
     match date {
         CalendarDate::OfMonth { year, month, day } => day_of(year as i32, month, day),

@@ -6,6 +6,7 @@
 
 mod at_date;
 mod civil;
+mod clock;
 mod day;
 mod day_text;
 mod decimals;
@@ -17,7 +18,9 @@ mod time_text;
 
 pub use at_date::read_at_date;
 pub use civil::{Civil, civil_of};
+pub use clock::{TimeOfDay, read_clock};
 pub use day::{day_of, day_of_doy};
+pub use day_text::{CalendarDate, read_day};
 pub use decimals::read_decimals;
 pub use fault::DateFault;
 pub use label::{DAY, FIRST, LAST, Label, SECOND, formal_of, is_in_range, label_of};

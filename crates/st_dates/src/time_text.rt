@@ -1,15 +1,10 @@
 //! The time of day behind the day of a date.
 
-ghost use Rattle.std.specs.Prelude.{◌≡◌, ◌≤◌, ◌<◌, ◌*◌, ◌^◌, MatchOption, IfSome, option_copied};
+ghost use Rattle.std.specs.Prelude.{◌≡◌, ◌<◌, ◌*◌, ◌^◌, IfSome, option_copied};
 ghost use Rattle.st_dates.specs.TimeTextMachine as machine;
-ghost use Rattle.st_dates.specs.TimeTextMachine.{time_of_text, clock_of, second_units};
+ghost use Rattle.st_dates.specs.TimeTextMachine.{time_of_text};
 
-use crate::decimals::read_decimals;
-use crate::label;
-use st_text::{after, is_digit_run, read_digits, split_digits};
-
-/// The units in a second.
-const SECOND: u128 = label::SECOND as u128;
+use crate::clock::{MINUTE, read_clock};
 
 /// The units of the day that the text behind a day tells: none where it tells no time.
 #[tactic(auto, unfolding(crate::specs::TimeTextMachine::time_of_text))]
@@ -20,7 +15,8 @@ pub(crate) fn read_time(text: &[u8]) -> Option<u128>
     if text.is_empty() {
         return Some(0);
     }
-    read_clock(past_mark(text)?)
+    let time = read_clock(past_mark(text)?, 59)?;
+    Some(u128::from(time.minute) * MINUTE + time.units)
 }
 
 /// What stands behind a `/`, `//`, `T`, `t` or `-` with which a text begins.
@@ -32,49 +28,5 @@ fn past_mark(text: &[u8]) -> Option<&[u8]>
         [b'/', b'/', rest @ ..] => Some(rest),
         [b'/' | b'T' | b't' | b'-', rest @ ..] => Some(rest),
         _ => None,
-    }
-}
-
-/// The units of the day at a time.
-#[tactic(auto, unfolding(crate::specs::TimeTextMachine::clock_of))]
-fn read_clock(text: &[u8]) -> Option<u128>
-    ensures value { result ≡ clock_of text.now }
-    ensures below { IfSome result (λ units. units < 86_400 * 10 ^ 18) }
-{
-    let (hour, rest) = read_field(text, 23)?;
-    let (minute, rest) = read_field(after(rest, b':')?, 59)?;
-    let seconds = read_seconds(rest)?;
-    Some((3600 * u128::from(hour) + 60 * u128::from(minute)) * SECOND + seconds)
-}
-
-/// The seconds of a minute as units: `:SS` or `:SS.f` or nothing.
-#[tactic(auto, unfolding(crate::specs::TimeTextMachine::second_units))]
-fn read_seconds(text: &[u8]) -> Option<u128>
-    ensures value { result ≡ second_units text.now }
-    ensures below { IfSome result (λ units. units < 60 * 10 ^ 18) }
-{
-    if text.is_empty() {
-        return Some(0);
-    }
-    let (second, rest) = read_field(after(text, b':')?, 59)?;
-    Some(u128::from(second) * SECOND + u128::from(read_decimals(rest)?))
-}
-
-/// One or two digits with which a text begins, of a number that is at most `last`, and the rest.
-#[tactic(auto, unfolding(crate::specs::TimeTextMachine::field))]
-fn read_field(text: &[u8], last: u64) -> Option<(u64, &[u8])>
-    ensures value { MatchOption result (machine.field last text.now ≡ None)
-        (λ p. machine.field last text.now ≡ Some (p.0, p.1.now)) }
-    ensures within { IfSome result (λ p. p.0 ≤ last) }
-{
-    let (digits, rest) = split_digits(text);
-    if !is_digit_run(digits, 1, 2) {
-        return None;
-    }
-    let number = read_digits(digits);
-    if number <= last {
-        Some((number, rest))
-    } else {
-        None
     }
 }
