@@ -1,7 +1,6 @@
 -- Reading a date answers what the relation allows, and the relation allows one answer.
-use Rattle.std.proofs.Common.{◌≡◌, ◌⊎◌, true, ◌&&◌, inl, inr, refl, sym, ap, ◌∙◌, subst, arith, List, ◌++◌, ℕ, ℤ, ◌≤ℤ◌, int_le, Option, Some, None, Result, Ok, Err}
+use Rattle.std.proofs.Common.{◌≡◌, ◌⊎◌, ◌&&◌, inl, inr, refl, sym, ap, ◌∙◌, subst, List, ◌++◌, ℕ, ℤ, int_le, Option, Some, None, Result, Ok, Err}
 use Rattle.std.proofs.lemmas.Bool.{cases_Bool}
-use Rattle.std.proofs.lemmas.Int.{ints}
 use Rattle.st_dates.specs.AtDate.{ReadsAtDate, Written, Spells, IsMomentOf, moment}
 use Rattle.st_dates.specs.AtDateMachine.{at_date_of, dated, counted, ranged, parts_of}
 use Rattle.st_dates.specs.DayText.{day_spelling, IsDayOf}

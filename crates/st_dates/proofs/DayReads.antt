@@ -1,11 +1,11 @@
 -- The date with which a text begins is read exactly, and so is its day number.
-use Rattle.std.proofs.Common.{◌≡◌, ℕ, refl, sym, ap, ◌∙◌, List, [], ◌∷◌, ◌++◌, ℤ, Option, Some, None, IfSome, MatchOption}
+use Rattle.std.proofs.Common.{◌≡◌, ℕ, sym, ap, ◌∙◌, List, [], ◌∷◌, ℤ, Option, Some, None, IfSome, MatchOption}
 use Rattle.std.proofs.lemmas.Option.{same_Some}
 use Rattle.std.specs.Char.{is_ascii_digit}
 use Rattle.st_text.specs.Bytes.{number_of}
 use Rattle.st_text.proofs.Runs.{Stops}
 use Rattle.st_dates.specs.Names.{NamesMonth}
-use Rattle.st_dates.specs.DayText.{DayText, numeric, named, day_first, of_year, day_spelling, AreDayParts, NamesDate, BeginsWithDay, BeginsNoDigit, IsDayNumber}
+use Rattle.st_dates.specs.DayText.{DayText, numeric, named, day_first, of_year, NamesDate, BeginsWithDay, BeginsNoDigit, IsDayNumber}
 use Rattle.st_dates.specs.DayTextMachine.{day_of_text, number_in}
 use Rattle.st_dates.specs.declared.day_text.CalendarDate.{CalendarDate}
 use Rattle.st_dates.specs.declared.day_text.CalendarDate.TheVariants.{OfMonth, OfYear}

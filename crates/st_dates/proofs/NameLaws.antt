@@ -1,5 +1,5 @@
 -- Looking a month's name up gives the month that it names, and no other.
-use Rattle.std.proofs.Common.{◌≡◌, ℕ, zero, suc, ◌+◌, ◌-◌, ◌<◌, ◌≤◌, ◌⊎◌, true, false, inl, inr, refl, sym, ap, ◌∙◌, arith, List, [], ◌∷◌, length, take, drop, slice_index_or, Option, Some, None, IfSome, if◌then◌else◌, Bool, not, ◌&&◌, ◌==◌, nat_le, ◌++◌}
+use Rattle.std.proofs.Common.{◌≡◌, ℕ, zero, suc, ◌+◌, ◌-◌, ◌<◌, ◌≤◌, ◌⊎◌, true, false, inl, inr, refl, sym, ap, ◌∙◌, arith, List, [], ◌∷◌, length, take, drop, slice_index_or, Option, Some, None, IfSome, if◌then◌else◌, Bool, ◌&&◌, ◌||◌, nat_le, ◌++◌}
 use Rattle.std.proofs.lemmas.Bool.{cases_Bool, or_cases}
 use Rattle.std.proofs.lemmas.Slice.Eq.{bytes_eq-Decides}
 use Rattle.std.proofs.lemmas.Bool.Decides.{nat_tests}
@@ -125,67 +125,83 @@ last m name e inv = rw e at inv
 pub names : (text : List ℕ) (m : ℕ) → month_named text ≡ Some m → NamesMonth text m
 names text m e = named (Some m) text (sym e)
 
--- what a month's name is made of: no `-` and no digit
-abbrev pub is_name_byte : ℕ → Bool
-is_name_byte b = not (b == 45) && not (is_ascii_digit b)
+-- a letter of the alphabet
+abbrev pub is_letter : ℕ → Bool
+is_letter b = (nat_le 65 b && nat_le b 90) || (nat_le 97 b && nat_le b 122)
 
-lower_byte : (b : ℕ) → is_name_byte (to_ascii_lowercase b) ≡ is_name_byte b
-lower_byte b = grind (arith, nat_tests)
+lower_letter : (b : ℕ) → is_letter (to_ascii_lowercase b) ≡ is_letter b
+lower_letter b = grind (arith, nat_tests)
 
-lower_bytes : (t : List ℕ) → list_all is_name_byte (lowered t) ≡ list_all is_name_byte t
-lower_bytes [] = refl
-lower_bytes (b ∷ t) = rw (lower_byte b, lower_bytes t) refl
+pub lower_letters : (t : List ℕ) → list_all is_letter (lowered t) ≡ list_all is_letter t
+lower_letters [] = refl
+lower_letters (b ∷ t) = rw (lower_letter b, lower_letters t) refl
 
-lower_length : (t : List ℕ) → length (lowered t) ≡ length t
+pub lower_length : (t : List ℕ) → length (lowered t) ≡ length t
 lower_length [] = refl
 lower_length (b ∷ t) = ap suc (lower_length t)
 
--- a text of at least one byte, each a name's
-abbrev is_plain : List ℕ → Bool
-is_plain text = list_all is_name_byte text && nat_le 1 (length text)
+-- a text that is the same as letters is letters
+pub same_letters : (text full : List ℕ) → AreSameLetters text full → list_all is_letter full ≡ true → list_all is_letter text ≡ true
+same_letters text full e h =
+    sym (lower_letters text) ∙ ap (λ (t : List ℕ). list_all is_letter t) e ∙ lower_letters full ∙ h
 
-unfoldable IsPlain : ℕ → Type 0
-IsPlain m =
-    (is_plain (lowered (name_of_month m)) ≡ true)
-    × (is_plain (lowered (take 3 (name_of_month m))) ≡ true)
+pub same_length : (text full : List ℕ) → AreSameLetters text full → length text ≡ length full
+same_length text full e = sym (lower_length text) ∙ ap (λ (t : List ℕ). length t) e ∙ lower_length full
 
-plain_in : (m : ℕ) → 1 ≤ m → m ≤ 12 → IsPlain m
-unfolding IsPlain
-plain_in = by_month IsPlain (refl, refl) (refl, refl) (refl, refl) (refl, refl) (refl, refl) (refl, refl) (refl, refl) (refl, refl) (refl, refl) (refl, refl) (refl, refl) (refl, refl)
+-- letters pass a test that each letter passes, and stop one that each fails
+pub letters_pass : (p : ℕ → Bool) → ((b : ℕ) → is_letter b ≡ true → p b ≡ true) → (t : List ℕ) → list_all is_letter t ≡ true → list_all p t ≡ true
+letters_pass p each [] h = refl
+letters_pass p each (b ∷ t) h =
+    rw (each b (and-left (is_letter b) (list_all is_letter t) h)) (letters_pass p each t (and-right (is_letter b) (list_all is_letter t) h))
 
-plain_name : (text : List ℕ) (m : ℕ) → NamesMonth text m → is_plain (lowered text) ≡ true
-unfolding IsPlain
-plain_name text m h =
-    let each = plain_in m h.month_from h.month_to in
+pub letters_stop : (p : ℕ → Bool) → ((b : ℕ) → is_letter b ≡ true → p b ≡ false) → (t rest : List ℕ) → list_all is_letter t ≡ true → 1 ≤ length t → Stops p (t ++ rest)
+letters_stop p each [] rest h some = absurd (let n : 1 ≤ 0 = some in omega arith)
+letters_stop p each (b ∷ t) rest h some = each b (and-left (is_letter b) (list_all is_letter t) h)
+
+-- a name or its first three letters are letters, at least one
+unfoldable AreLetters : ℕ → Type 0
+AreLetters m =
+    (list_all is_letter (name_of_month m) ≡ true)
+    × (list_all is_letter (take 3 (name_of_month m)) ≡ true)
+    × (nat_le 1 (length (name_of_month m)) ≡ true)
+    × (nat_le 1 (length (take 3 (name_of_month m))) ≡ true)
+
+letters_in : (m : ℕ) → 1 ≤ m → m ≤ 12 → AreLetters m
+unfolding AreLetters
+letters_in = by_month AreLetters (refl, refl, refl, refl) (refl, refl, refl, refl) (refl, refl, refl, refl) (refl, refl, refl, refl) (refl, refl, refl, refl) (refl, refl, refl, refl) (refl, refl, refl, refl) (refl, refl, refl, refl) (refl, refl, refl, refl) (refl, refl, refl, refl) (refl, refl, refl, refl) (refl, refl, refl, refl)
+
+pub name_letters : (text : List ℕ) (m : ℕ) → NamesMonth text m → list_all is_letter text ≡ true
+unfolding AreLetters
+name_letters text m h =
+    let each = letters_in m h.month_from h.month_to in
     elim h.letters [
-      | inl e ↦ rw e each.0
-      | inr e ↦ rw e each.1
+      | inl e ↦ same_letters text (name_of_month m) e each.0
+      | inr e ↦ same_letters text (take 3 (name_of_month m)) e each.1
     ]
 
-all_name_bytes : (text : List ℕ) (m : ℕ) → NamesMonth text m → list_all is_name_byte text ≡ true
-all_name_bytes text m h =
-    sym (lower_bytes text) ∙ and-left (list_all is_name_byte (lowered text)) (nat_le 1 (length (lowered text))) (plain_name text m h)
+at_least_one : (a b : ℕ) → a ≡ b → nat_le 1 b ≡ true → 1 ≤ a
+at_least_one a b e h = grind (arith, nat_tests)
 
-dashless : (t : List ℕ) → list_all is_name_byte t ≡ true → list_all is_no_dash t ≡ true
-dashless [] h = refl
-dashless (b ∷ t) h =
-    let here : is_no_dash b ≡ true = and-left (not (b == 45)) (not (is_ascii_digit b)) (and-left (is_name_byte b) (list_all is_name_byte t) h) in
-    rw here (dashless t (and-right (is_name_byte b) (list_all is_name_byte t) h))
+pub name_some : (text : List ℕ) (m : ℕ) → NamesMonth text m → 1 ≤ length text
+unfolding AreLetters
+name_some text m h =
+    let each = letters_in m h.month_from h.month_to in
+    elim h.letters [
+      | inl e ↦ at_least_one (length text) (length (name_of_month m)) (same_length text (name_of_month m) e) each.2
+      | inr e ↦ at_least_one (length text) (length (take 3 (name_of_month m))) (same_length text (take 3 (name_of_month m)) e) each.3
+    ]
 
--- a month's name has no after_byte 45 in it
+letter_no_dash : (b : ℕ) → is_letter b ≡ true → is_no_dash b ≡ true
+letter_no_dash b h = grind (arith, nat_tests)
+
+letter_no_digit : (b : ℕ) → is_letter b ≡ true → is_ascii_digit b ≡ false
+letter_no_digit b h = grind (arith, nat_tests)
+
+-- a month's name has no dash in it
 pub no_dash : (text : List ℕ) (m : ℕ) → NamesMonth text m → list_all is_no_dash text ≡ true
-no_dash text m h = dashless text (all_name_bytes text m h)
-
-not_true : (b : Bool) → not b ≡ true → b ≡ false
-not_true true h = absurd (cc)
-not_true false h = refl
-
-no_digit_first : (text rest : List ℕ) → list_all is_name_byte text ≡ true → nat_le 1 (length (lowered text)) ≡ true → Stops is_ascii_digit (text ++ rest)
-no_digit_first [] rest h k = absurd (cc)
-no_digit_first (b ∷ t) rest h k =
-    not_true (is_ascii_digit b) (and-right (not (b == 45)) (not (is_ascii_digit b)) (and-left (is_name_byte b) (list_all is_name_byte t) h))
+no_dash text m h = letters_pass is_no_dash letter_no_dash text (name_letters text m h)
 
 -- and begins with no digit
 pub no_digit : (text rest : List ℕ) (m : ℕ) → NamesMonth text m → Stops is_ascii_digit (text ++ rest)
 no_digit text rest m h =
-    no_digit_first text rest (all_name_bytes text m h) (and-right (list_all is_name_byte (lowered text)) (nat_le 1 (length (lowered text))) (plain_name text m h))
+    letters_stop is_ascii_digit letter_no_digit text rest (name_letters text m h) (name_some text m h)

@@ -1,18 +1,14 @@
 -- A text that was read to a time is one of its forms.
-use Rattle.std.proofs.Common.{◌≡◌, ℕ, true, ◌==◌, ◌&&◌, ◌||◌, ◌+◌, ◌-◌, ◌*◌, ◌^◌, ◌⊎◌, nat_le, inl, inr, refl, sym, ap, ◌∙◌, arith, List, [], ◌∷◌, ◌++◌, length, Option, Some}
+use Rattle.std.proofs.Common.{◌≡◌, ℕ, true, ◌==◌, ◌||◌, ◌+◌, ◌*◌, ◌^◌, inl, inr, refl, sym, ap, ◌∙◌, arith, List, [], ◌∷◌, ◌++◌, Option, Some}
 use Rattle.std.proofs.lemmas.Bool.{cases_Bool, or_cases}
 use Rattle.std.proofs.lemmas.Bool.Decides.{nat_tests}
-use Rattle.std.proofs.lemmas.List.{append-nil}
-use Rattle.std.specs.Char.{is_ascii_digit}
 use Rattle.std.specs.Prelude.{codes}
-use Rattle.st_text.specs.Bytes.{number_of}
-use Rattle.st_text.specs.Scan.{IsDigitRun, ◌>>=◌, leading_digits, past_digits, after, is_digit_run}
-use Rattle.st_dates.specs.TimeText.{Clock, minutes, seconds, decimals, clock_spelling, minute_of, second_units, IsMark, TimeText, midnight, after_mark, time_spelling, AreTimeParts, time_units}
+use Rattle.st_text.specs.Scan.{◌>>=◌}
+use Rattle.st_dates.specs.TimeText.{minute_of, second_units, IsMark, TimeText, midnight, after_mark, time_spelling, AreTimeParts, time_units}
 use Rattle.st_dates.specs.TimeTextMachine.{clock_of, past_slash, past_mark, time_of_text, day_units}
 use Rattle.st_dates.specs.declared.clock.TimeOfDay.{TimeOfDay}
 use Rattle.std.proofs.lemmas.Option.{same_Some}
-use Rattle.st_text.proofs.Logic.{and-left, and-right, bound}
-use Rattle.st_text.proofs.Runs.{joined, after_is, digits_tested}
+use Rattle.st_text.proofs.Logic.{bound}
 use Rattle.st_dates.proofs.ClockCuts.{clock_cut}
 
 same_byte : (a b : ℕ) → (a == b) ≡ true → a ≡ b

@@ -1,16 +1,15 @@
 -- A time is read from a text exactly where the text is one of its forms.
-use Rattle.std.proofs.Common.{◌≡◌, ℕ, true, false, ◌==◌, ◌≤◌, ◌+◌, ◌-◌, ◌*◌, ◌^◌, nat_le, inl, inr, refl, sym, ap, ◌∙◌, subst, arith, List, [], ◌∷◌, ◌++◌, length, Option, Some, None}
+use Rattle.std.proofs.Common.{◌≡◌, ℕ, true, false, ◌==◌, ◌≤◌, inl, inr, refl, sym, ap, ◌∙◌, subst, arith, List, [], ◌∷◌, ◌++◌, Some, None}
 use Rattle.std.proofs.lemmas.Bool.Decides.{nat_tests}
-use Rattle.std.proofs.lemmas.List.{append-nil}
 use Rattle.std.specs.Char.{is_ascii_digit}
-use Rattle.st_text.specs.Bytes.{are_digits, number_of}
+use Rattle.st_text.specs.Bytes.{are_digits}
 use Rattle.st_text.specs.Scan.{IsDigitRun}
 use Rattle.st_dates.specs.TimeText.{Clock, minutes, seconds, decimals, clock_spelling, AreClockParts, minute_of, second_units, IsMark, TimeText, midnight, after_mark, time_spelling, AreTimeParts, time_units}
 use Rattle.st_dates.specs.TimeTextMachine.{clock_of, past_slash, past_mark, time_of_text, day_units}
 use Rattle.st_dates.specs.declared.clock.TimeOfDay.{TimeOfDay}
 use Rattle.st_dates.proofs.ClockForms.{time, clock_read}
 use Rattle.st_text.proofs.Logic.{and-left}
-use Rattle.st_text.proofs.Runs.{Stops, digits_at, past_at, digits_test, after_byte}
+use Rattle.st_text.proofs.Runs.{Stops}
 
 no_slash : (b : ℕ) → is_ascii_digit b ≡ true → (b == 47) ≡ false
 no_slash b h = grind (arith, nat_tests)

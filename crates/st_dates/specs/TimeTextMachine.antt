@@ -1,5 +1,5 @@
 -- How the time behind a day is read: a mark, then fields from the left.
-use Rattle.std.specs.Prelude.{ℕ, ◌+◌, ◌*◌, ◌^◌, ◌&&◌, ◌||◌, ◌==◌, nat_le, List, [], ◌∷◌, length, Option, Some, None, if◌then◌else◌}
+use Rattle.std.specs.Prelude.{ℕ, ◌+◌, ◌*◌, ◌^◌, ◌&&◌, ◌||◌, ◌==◌, nat_le, List, [], ◌∷◌, Option, Some, None, if◌then◌else◌}
 use Rattle.st_text.specs.Bytes.{number_of}
 use Rattle.st_dates.specs.Decimals.{units_of_decimals}
 use Rattle.st_dates.specs.declared.clock.TimeOfDay.{TimeOfDay}

@@ -1,6 +1,4 @@
-use Rattle.std.proofs.Common.{rules, ◌≡◌, ℕ, Option, Some, None, IfSome, sym, ◌∙◌}
-use Rattle.st_dates.specs.Decimals.{SpellsDecimals}
-use Rattle.st_dates.specs.TimeTextMachine.{decimal_units}
+use Rattle.std.proofs.Common.{◌∙◌}
 use Rattle.st_dates.proofs.DecimalLaws.{spelled_by, decimals_only}
 use Rattle.st_dates.proofs.decimals.read_decimals.Goals as goal
 
