@@ -13,19 +13,19 @@ use Rattle.st_dates.specs.declared.civil.Civil.{Civil}
 use Rattle.st_dates.proofs.DayLemmas.{year, month, months, from_1970, magnitude}
 
 -- the days of a year's twelve months
-year_of_months : (y : ℕ) → days_of_months y 12 ≡ year_length y
+pub year_of_months : (y : ℕ) → days_of_months y 12 ≡ year_length y
 year_of_months y = sym (months y 12) ∙ days_of_months_all (pos y) ∙ year y
 
 -- a day of a month lies before each later month
-before_month : (y m d later : ℕ) → IsCalendarDay y m d → m ≤ later → day_of_year y m d ≤ days_of_months y later
+pub before_month : (y m d later : ℕ) → IsCalendarDay y m d → m ≤ later → day_of_year y m d ≤ days_of_months y later
 before_month y m d later h le =
     let in_month : d ≤ days_in_month (pos y) m = omega (arith, month y m, h.day_to) in
     omega (arith, day_of_year_before (pos y) m d later h.month_from in_month le, months y (m - 1), months y later)
 
-in_year : (y m d : ℕ) → IsCalendarDay y m d → day_of_year y m d ≤ year_length y
+pub in_year : (y m d : ℕ) → IsCalendarDay y m d → day_of_year y m d ≤ year_length y
 in_year y m d h = omega (arith, before_month y m d 12 h h.month_to, year_of_months y)
 
-year_step : (y : ℕ) → days_before_year (suc y) ≡ days_before_year y + year_length y
+pub year_step : (y : ℕ) → days_before_year (suc y) ≡ days_before_year y + year_length y
 unfolding days_before_year
 year_step y = refl
 
@@ -36,7 +36,7 @@ before_year y (suc k) =
     let at : suc (suc k + y) ≡ suc (suc (k + y)) = omega arith in
     omega (arith, before_year y k, year_step (suc (k + y)), ap days_before_year at)
 
-before_later : (y later : ℕ) → y < later → days_before_year y + year_length y ≤ days_before_year later
+pub before_later : (y later : ℕ) → y < later → days_before_year y + year_length y ≤ days_before_year later
 before_later y later h =
     let at : suc (later - suc y + y) ≡ later = omega arith in
     omega (arith, before_year y (later - suc y), ap days_before_year at)
