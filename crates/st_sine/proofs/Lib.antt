@@ -6,3 +6,4 @@ pub mod Doubled
 pub mod Reduced
 pub mod Eccentric
 pub mod OneValue
+pub mod Moves

@@ -162,7 +162,8 @@ anomaly_narrows eb m0 m1 t e pb pt pe some = (
       ),
 )
 
-dens : (eb m0 m1 : ℤ) (t : Fraction) (m : ℕ) → IsFraction t
+-- the bounds have denominators above 0
+pub dens : (eb m0 m1 : ℤ) (t : Fraction) (m : ℕ) → IsFraction t
     → (0 < (sine_upper (low_anomaly eb m0 m1 t m) m +ᶠ anomaly_gap eb m0 m1 t m).den) × (0 < (sine_lower (low_anomaly eb m0 m1 t m) m -ᶠ anomaly_gap eb m0 m1 t m).den)
 unfolding low_anomaly anomaly_gap
 dens eb m0 m1 t m pt =

@@ -10,11 +10,11 @@ use st_enclosure::{Enc, UNIT};
 /// How often an angle is halved: 2^11 times 2 rad is beyond the anomaly at every accepted epoch.
 const HALVINGS: u32 = 11;
 
-/// An enclosure of sin E at `t`, which is TT in units past J2000, at most 3,155,800,000 s to either side; with
+/// An enclosure of sin E at `t`, which is TT in units past J2000, at most 6,311,500,000 s to either side; with
 /// `E = M + EB sin M` and `M = M0 + M1 t`. At most 42·10^7 units wide.
 pub fn anomaly_sine(orbit: &Orbit, t: i128) -> Enc
-    requires low { neg_ℤ (pos (3155800000 * 10 ^ 18)) ≤ℤ t }
-    requires high { t ≤ℤ pos (3155800000 * 10 ^ 18) }
+    requires low { neg_ℤ (pos (6311500000 * 10 ^ 18)) ≤ℤ t }
+    requires high { t ≤ℤ pos (6311500000 * 10 ^ 18) }
     ensures contains { HasAnomalySine orbit.now.eb orbit.now.m0 orbit.now.m1 (units t) result.lo result.hi }
     ensures narrow { (result.hi -ℤ result.lo) ≤ℤ pos (42 * 10 ^ 7) }
     ensures ends { EndsAtMost result.lo result.hi (2 * 10 ^ 18) }
@@ -32,11 +32,11 @@ fn mean_of(m0: i128, m1: i128, t: i128) -> Enc
     requires m0_high { m0 ≤ℤ pos (10 ^ 19) }
     requires m1_low { pos 0 ≤ℤ m1 }
     requires m1_high { m1 ≤ℤ pos (4 * 10 ^ 11) }
-    requires low { neg_ℤ (pos (3155800000 * 10 ^ 18)) ≤ℤ t }
-    requires high { t ≤ℤ pos (3155800000 * 10 ^ 18) }
+    requires low { neg_ℤ (pos (6311500000 * 10 ^ 18)) ≤ℤ t }
+    requires high { t ≤ℤ pos (6311500000 * 10 ^ 18) }
     ensures contains { LiesWithin result.lo result.hi (mean_anomaly m0 m1 (units t)) }
     ensures narrow { (result.hi -ℤ result.lo) ≤ℤ pos 1 }
-    ensures ends { EndsAtMost result.lo result.hi (1300 * 10 ^ 18) }
+    ensures ends { EndsAtMost result.lo result.hi (2600 * 10 ^ 18) }
 {
     let turned = Enc::point(t).times_fraction(m1, UNIT);
     Enc::point(m0).add(turned)
@@ -44,7 +44,7 @@ fn mean_of(m0: i128, m1: i128, t: i128) -> Enc
 
 // `M + EB s`, for the sines `s` of `M`.
 fn eccentric_of(mean: Enc, sine: Enc, eb: i128) -> Enc
-    requires mean_ends { EndsAtMost mean.lo mean.hi (1300 * 10 ^ 18) }
+    requires mean_ends { EndsAtMost mean.lo mean.hi (2600 * 10 ^ 18) }
     requires sine_ends { EndsAtMost sine.lo sine.hi (2 * 10 ^ 18) }
     requires sine_narrow { (sine.hi -ℤ sine.lo) ≤ℤ pos (4 * 10 ^ 8) }
     requires mean_narrow { (mean.hi -ℤ mean.lo) ≤ℤ pos 1 }
@@ -66,7 +66,7 @@ mod tests {
     // A unit is 10^6 parts of 10^-24.
     const PARTS: i128 = 1_000_000;
 
-    const LATEST: i128 = 3_155_800_000 * UNIT;
+    const LATEST: i128 = 6_311_500_000 * UNIT;
 
     // Each `sine` is sin E at `t`, to twenty-four decimals by mpmath at eighty digits.
     fn encloses(rt: &impl Abort, orbit: &Orbit, rows: &[(i128, i128)]) {
@@ -79,8 +79,16 @@ mod tests {
         }
     }
 
-    // Times from 1900 to 2100, at the constants of the usual leapseconds kernel.
-    const USUAL: [(i128, i128); 17] = [
+    // Times from 1800 to 2200, at the constants of the usual leapseconds kernel.
+    const USUAL: [(i128, i128); 21] = [
+        (
+            -6_311_500_000_000_000_000_000_000_000,
+            -6_129_896_489_647_676_095_473,
+        ),
+        (
+            -6_311_390_400_000_000_000_000_000_000,
+            16_055_009_986_963_099_974_999,
+        ),
         (
             -3_155_800_000_000_000_000_000_000_000,
             -35_134_309_555_752_012_063_296,
@@ -134,6 +142,14 @@ mod tests {
             3_155_800_000_000_000_000_000_000_000,
             -52_655_593_996_735_629_392_378,
         ),
+        (
+            6_311_390_400_000_000_000_000_000_001,
+            -103_688_043_010_696_997_253_766,
+        ),
+        (
+            6_311_500_000_000_000_000_000_000_000,
+            -81_599_793_152_205_098_851_063,
+        ),
     ];
 
     #[test]
@@ -154,6 +170,14 @@ mod tests {
             m1: 400_000_000_000,
         };
         let rows = [
+            (
+                -6_311_500_000_000_000_000_000_000_000,
+                -974_678_840_954_010_082_061_778,
+            ),
+            (
+                -6_311_390_400_000_000_000_000_000_000,
+                -963_880_910_417_699_578_788_695,
+            ),
             (
                 -3_155_800_000_000_000_000_000_000_000,
                 -915_605_539_205_096_513_772_177,
@@ -176,6 +200,14 @@ mod tests {
                 3_155_800_000_000_000_000_000_000_000,
                 24_521_803_789_424_052_077_519,
             ),
+            (
+                6_311_390_400_000_000_000_000_000_001,
+                641_220_897_355_665_074_318_418,
+            ),
+            (
+                6_311_500_000_000_000_000_000_000_000,
+                607_513_147_118_013_780_436_691,
+            ),
         ];
         encloses(&rt, &orbit, &rows);
     }
@@ -189,12 +221,20 @@ mod tests {
         };
         let rows = [
             (
+                -6_311_500_000_000_000_000_000_000_000,
+                544_021_110_889_369_813_404_748,
+            ),
+            (
                 -3_155_800_000_000_000_000_000_000_000,
                 544_021_110_889_369_813_404_748,
             ),
             (0, 544_021_110_889_369_813_404_748),
             (
                 3_155_800_000_000_000_000_000_000_000,
+                544_021_110_889_369_813_404_748,
+            ),
+            (
+                6_311_500_000_000_000_000_000_000_000,
                 544_021_110_889_369_813_404_748,
             ),
         ];

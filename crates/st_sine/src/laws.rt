@@ -1,10 +1,16 @@
-//! The law of the sine in the formula. The function does nothing: its contract is the law.
+//! The laws of the sine in the formula. The functions do nothing: their contracts are the laws.
 
-ghost use Rattle.st_sine.specs.Laws.{AnomalyNarrows, AnomalyAgrees};
+ghost use Rattle.st_sine.specs.Laws.{AnomalyNarrows, AnomalyAgrees, AnomalyLipschitz, AnomalyMoves};
 
 /// The sine in the formula has one value: some `n` fits, its two bounds come as near to each other as one likes, and what
 /// is at least a and at most b has `a <= b`.
 pub fn one_value()
     ensures narrows { AnomalyNarrows }
     ensures agrees { AnomalyAgrees }
+{}
+
+/// The sine in the formula moves with `t` by at most `M1 (1 + EB)` times as much, whichever `n` the bounds are taken at.
+pub fn lipschitz()
+    ensures lipschitz { AnomalyLipschitz }
+    ensures moves { AnomalyMoves }
 {}

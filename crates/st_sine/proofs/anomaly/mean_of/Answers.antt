@@ -20,8 +20,8 @@ add-requires-clause-other_ends c =
     let ph = simp to_z-of_z at c.point.ensures.high in
     let l = simp to_z-of_z at c.times_fraction-turned.ensures.tight_low in
     let u = simp to_z-of_z at c.times_fraction-turned.ensures.tight_high in
-    let ends : EndsAtMost c.point.result.lo c.point.result.hi (3155800000 * 10 ^ 18) = record { low = omega (arith, ints, pl); high = omega (arith, ints, ph) } in
-    let s = is_scaled c.point.result.lo c.point.result.hi c.args.m1 c.times_fraction-turned.result.lo c.times_fraction-turned.result.hi l.0 u.0 0 (3155800000 * 10 ^ 18) (4 * 10 ^ 11) 0 (3155800000 * (4 * 10 ^ 11))
+    let ends : EndsAtMost c.point.result.lo c.point.result.hi (6311500000 * 10 ^ 18) = record { low = omega (arith, ints, pl); high = omega (arith, ints, ph) } in
+    let s = is_scaled c.point.result.lo c.point.result.hi c.args.m1 c.times_fraction-turned.result.lo c.times_fraction-turned.result.hi l.0 u.0 0 (6311500000 * 10 ^ 18) (4 * 10 ^ 11) 0 (6311500000 * (4 * 10 ^ 11))
     c.point.result.ordered (omega (arith, ints, pl, ph)) ends c.requires.m1_low c.requires.m1_high (lit≤ tt) (lit≤ tt) l.1.0 l.1.1 u.1.0 u.1.1 in
     let e = s.ends in
     record { low = omega (arith, ints, e.low); high = omega (arith, ints, e.high) }
@@ -44,8 +44,8 @@ returns-clause-narrow c =
     let ph = simp to_z-of_z at c.point.ensures.high in
     let l = simp to_z-of_z at c.times_fraction-turned.ensures.tight_low in
     let u = simp to_z-of_z at c.times_fraction-turned.ensures.tight_high in
-    let ends : EndsAtMost c.point.result.lo c.point.result.hi (3155800000 * 10 ^ 18) = record { low = omega (arith, ints, pl); high = omega (arith, ints, ph) } in
-    let s = is_scaled c.point.result.lo c.point.result.hi c.args.m1 c.times_fraction-turned.result.lo c.times_fraction-turned.result.hi l.0 u.0 0 (3155800000 * 10 ^ 18) (4 * 10 ^ 11) 0 (3155800000 * (4 * 10 ^ 11))
+    let ends : EndsAtMost c.point.result.lo c.point.result.hi (6311500000 * 10 ^ 18) = record { low = omega (arith, ints, pl); high = omega (arith, ints, ph) } in
+    let s = is_scaled c.point.result.lo c.point.result.hi c.args.m1 c.times_fraction-turned.result.lo c.times_fraction-turned.result.hi l.0 u.0 0 (6311500000 * 10 ^ 18) (4 * 10 ^ 11) 0 (6311500000 * (4 * 10 ^ 11))
     c.point.result.ordered (omega (arith, ints, pl, ph)) ends c.requires.m1_low c.requires.m1_high (lit≤ tt) (lit≤ tt) l.1.0 l.1.1 u.1.0 u.1.1 in
     let m = c.ranges.m0 in
     let ql = simp to_z-of_z at c.point-2.ensures.low in
@@ -60,8 +60,8 @@ returns-clause-ends c =
     let ph = simp to_z-of_z at c.point.ensures.high in
     let l = simp to_z-of_z at c.times_fraction-turned.ensures.tight_low in
     let u = simp to_z-of_z at c.times_fraction-turned.ensures.tight_high in
-    let ends : EndsAtMost c.point.result.lo c.point.result.hi (3155800000 * 10 ^ 18) = record { low = omega (arith, ints, pl); high = omega (arith, ints, ph) } in
-    let s = is_scaled c.point.result.lo c.point.result.hi c.args.m1 c.times_fraction-turned.result.lo c.times_fraction-turned.result.hi l.0 u.0 0 (3155800000 * 10 ^ 18) (4 * 10 ^ 11) 0 (3155800000 * (4 * 10 ^ 11))
+    let ends : EndsAtMost c.point.result.lo c.point.result.hi (6311500000 * 10 ^ 18) = record { low = omega (arith, ints, pl); high = omega (arith, ints, ph) } in
+    let s = is_scaled c.point.result.lo c.point.result.hi c.args.m1 c.times_fraction-turned.result.lo c.times_fraction-turned.result.hi l.0 u.0 0 (6311500000 * 10 ^ 18) (4 * 10 ^ 11) 0 (6311500000 * (4 * 10 ^ 11))
     c.point.result.ordered (omega (arith, ints, pl, ph)) ends c.requires.m1_low c.requires.m1_high (lit≤ tt) (lit≤ tt) l.1.0 l.1.1 u.1.0 u.1.1 in
     let m = c.ranges.m0 in
     let ql = simp to_z-of_z at c.point-2.ensures.low in
