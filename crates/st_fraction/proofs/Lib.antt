@@ -7,3 +7,4 @@ pub mod Ends
 pub mod Linear
 pub mod Strict
 pub mod Floors
+pub mod Placed
