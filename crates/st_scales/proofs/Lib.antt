@@ -1,0 +1,4 @@
+pub mod Step
+pub mod Moves
+pub mod Values
+pub mod Found

@@ -1,0 +1,4 @@
+pub mod Tdb
+pub mod Route
+pub mod Constants
+pub mod Laws
