@@ -1,16 +1,16 @@
 -- TT of a TDB value exists: between two fractions that are as close to each other as one likes, by halving.
-use Rattle.std.proofs.Common.{◌≡◌, ℕ, zero, suc, ◌+◌, ◌*◌, ◌^◌, ◌≤◌, ◌<◌, ℤ, pos, ◌+ℤ◌, ◌*ℤ◌, ◌≤ℤ◌, ◌<ℤ◌, refl, ◌∙◌, arith, lit<, mul-pos}
+use Rattle.std.proofs.Common.{◌≡◌, ℕ, zero, suc, ◌+◌, ◌*◌, ◌^◌, ◌≤◌, ◌<◌, ℤ, pos, neg_ℤ, ◌+ℤ◌, ◌*ℤ◌, ◌≤ℤ◌, ◌<ℤ◌, refl, ◌∙◌, arith, lit<, mul-pos}
 use Rattle.std.proofs.lemmas.Int.{ints}
 use Rattle.st_fraction.specs.Fraction.{Fraction, IsFraction, ◌≤ᶠ◌, ◌<ᶠ◌, whole, ◌+ᶠ◌, ◌-ᶠ◌, ◌*ᶠ◌, IsNear}
 use Rattle.st_fraction.proofs.Ring.{lin, le-mul_z, mul-one_z}
 use Rattle.st_fraction.proofs.Order.{le_of_lt_f}
 use Rattle.st_fraction.proofs.Strict.{lt_at, at_lt}
-use Rattle.st_fraction.proofs.Placed.{Placed, plus, minus, finer, number, times, lowered, raised}
+use Rattle.st_fraction.proofs.Placed.{placed, plus, minus, finer, number, times, lowered, raised}
 use Rattle.st_scales.specs.declared.deltet.Deltet.{Deltet}
 use Rattle.st_scales.specs.Tdb.{tdb_low, tdb_high, TdbIsAtLeast, TdbIsAtMost}
 use Rattle.st_scales.proofs.Step.{IsSlack}
 use Rattle.st_scales.proofs.Moves.{tdb_moves_low, tdb_moves_high}
-use Rattle.st_scales.proofs.Values.{half, half-den, of_half, three, five, tdb_low-den, tdb_high-den, low_end, high_end, tdb_narrows, tdb_agrees, tdb_near}
+use Rattle.st_scales.proofs.Values.{half, half-den, of_half, half_twice, three, five, tdb_low-den, tdb_high-den, low_end, high_end, tdb_narrows, tdb_agrees, tdb_near}
 
 -- 1 / 2^n
 abbrev halved : ℕ → Fraction
@@ -66,33 +66,36 @@ closer c d p pd pp some f =
     let pu : IsFraction u = record { positive = mul-pos pt.positive (mul-pos pd.positive pa.positive) } in
     let e = p +ᶠ p in
     let pe : IsFraction e = record { positive = mul-pos pp.positive pp.positive } in
-    let z = five d t a b p pd.positive pt.positive pa.positive pb.positive pp.positive in
-    let four : 0 < z.m * 2 * 2 = mul-pos (mul-pos z.some (lit< tt)) (lit< tt) in
-    let od = finer 2 (finer 2 z.of_a) in
-    let ot = finer 2 (finer 2 z.of_b) in
-    let oa = finer 2 (finer 2 z.of_c) in
-    let ob = finer 2 (finer 2 z.of_d) in
-    let op = finer 2 (finer 2 z.of_e) in
-    let oh = finer 2 (of_half z.of_e) in
-    let oq = of_half (of_half z.of_e) in
-    let ou = plus ot (minus od oa) in
+    let z = placed d t a b p h q q pd.positive pt.positive pa.positive pb.positive pp.positive ph.positive pq.positive pq.positive in
+    let ou = plus z.of_b (minus z.of_a z.of_c) in
+    let two_h = lowered (plus z.of_f z.of_f) z.of_e (half_twice p pp).0 in
+    let one_p = lowered z.of_e (plus z.of_f z.of_f) (half_twice p pp).1 in
+    let two_q = lowered (plus z.of_g z.of_g) z.of_f (half_twice h ph).0 in
+    let one_h = lowered z.of_f (plus z.of_g z.of_g) (half_twice h ph).1 in
     let zero_p = lowered (number (pos 0) z.m) z.of_e (le_of_lt_f (whole (pos 0)) p some) in
-    let down = lowered (minus od op) ob (tdb_agrees c t (d -ᶠ p) b pt (record { positive = mul-pos pd.positive pp.positive }) pb f.at_least (high_end c t s.0 pt s.1.0)) in
-    let up = lowered oa (plus od op) (tdb_agrees c t a (d +ᶠ p) pt pa (record { positive = mul-pos pd.positive pp.positive }) (low_end c t s.0 pt s.1.0) f.at_most) in
-    let wide = lowered ob (plus oa oq) s.1.1 in
+    let down = lowered (minus z.of_a z.of_e) z.of_d (tdb_agrees c t (d -ᶠ p) b pt (record { positive = mul-pos pd.positive pp.positive }) pb f.at_least (high_end c t s.0 pt s.1.0)) in
+    let up = lowered z.of_c (plus z.of_a z.of_e) (tdb_agrees c t a (d +ᶠ p) pt pa (record { positive = mul-pos pd.positive pp.positive }) (low_end c t s.0 pt s.1.0) f.at_most) in
+    let wide = lowered z.of_d (plus z.of_c z.of_g) s.1.1 in
     let near : IsNear t u e = record {
-      above = raised four ot (plus ou (plus op op)) (omega (arith, ints, zero_p, up));
-      below = raised four ou (plus ot (plus op op)) (omega (arith, ints, zero_p, down, wide));
+      above = raised z.some z.of_b (plus ou (plus z.of_e z.of_e)) (omega (arith, ints, zero_p, up));
+      below = raised z.some ou (plus z.of_b (plus z.of_e z.of_e)) (omega (arith, ints, zero_p, down, wide, one_p, two_h, one_h, two_q));
     } in
-    let slack : IsSlack e q = record { enough = raised four (plus op op) (times (pos (10 ^ 9)) oq) (omega (arith, ints, zero_p)) } in
+    let slack : IsSlack e q = record { enough = raised z.some (plus z.of_e z.of_e) (times (pos (10 ^ 9)) z.of_g) (omega (arith, ints, zero_p, one_p, one_h)) } in
+    let few : z.xg ≤ℤ z.xf = omega (arith, ints, zero_p, one_p, one_h, two_q) in
     record {
       t = u;
       t_is = pu;
       at_least = tdb_moves_low c t u e q a (d -ᶠ h) pt pu pe pq pa (record { positive = mul-pos pd.positive ph.positive }) near slack
-          (raised four (plus (minus od oh) (plus ot oq)) (plus oa ou) (omega (arith, ints, zero_p))) (low_end c t s.0 pt s.1.0);
+          (raised z.some (plus (minus z.of_a z.of_f) (plus z.of_b z.of_g)) (plus z.of_c ou) (low_room z.xa z.xb z.xc z.xf z.xg few)) (low_end c t s.0 pt s.1.0);
       at_most = tdb_moves_high c t u e q b (d +ᶠ h) pt pu pe pq pb (record { positive = mul-pos pd.positive ph.positive }) near slack
-          (raised four (plus ob (plus ou oq)) (plus (plus od oh) ot) (omega (arith, ints, zero_p, wide))) (high_end c t s.0 pt s.1.0);
+          (raised z.some (plus z.of_d (plus ou z.of_g)) (plus (plus z.of_a z.of_f) z.of_b) (high_room z.xa z.xb z.xc z.xd z.xf z.xg wide two_q)) (high_end c t s.0 pt s.1.0);
     }
+  where
+    low_room : (d t a h q : ℤ) → q ≤ℤ h → (d +ℤ neg_ℤ h +ℤ (t +ℤ q)) ≤ℤ (a +ℤ (t +ℤ (d +ℤ neg_ℤ a)))
+    low_room d t a h q few = omega (arith, lin)
+
+    high_room : (d t a b h q : ℤ) → b ≤ℤ (a +ℤ q) → (q +ℤ q) ≤ℤ h → (b +ℤ (t +ℤ (d +ℤ neg_ℤ a) +ℤ q)) ≤ℤ (d +ℤ h +ℤ t)
+    high_room d t a b h q wide two = omega (arith, lin)
 
 found : (c : Deltet) (d : Fraction) (n : ℕ) → IsFraction d → IsFound c d (halved n)
 found c d zero pd = record { t = d; t_is = pd; at_least = (tdb_near c d pd).0; at_most = (tdb_near c d pd).1 }

@@ -2,3 +2,5 @@ pub mod Step
 pub mod Moves
 pub mod Values
 pub mod Found
+pub mod Routes
+pub mod Returns

@@ -153,6 +153,15 @@ pub of_half : {m : ℕ} {e : Fraction} {x : ℤ} → Placed m e x → Placed (m 
 unfolding half
 of_half {m} {e} {x} h = product h (record { den = lit< tt; at = at_self (over (pos 1) 2) })
 
+-- two halves
+pub half_twice : (p : Fraction) → IsFraction p → ((half p +ᶠ half p) ≤ᶠ p) × (p ≤ᶠ (half p +ᶠ half p))
+half_twice p pp =
+    let z = three p p p pp.positive pp.positive pp.positive in
+    let two : 0 < z.m * 2 = mul-pos z.some (lit< tt) in
+    let o = finer 2 z.of_a in
+    let h = of_half z.of_a in
+    (raised two (plus h h) o (omega (arith, ints)), raised two o (plus h h) (omega (arith, ints)))
+
 pub half_enough : (e : Fraction) → IsFraction e → whole (pos 0) ≤ᶠ e → IsSlack e (half e)
 half_enough e pe some =
     let z = three e e e pe.positive pe.positive pe.positive in
