@@ -4,3 +4,4 @@ pub mod Values
 pub mod Found
 pub mod Routes
 pub mod Returns
+pub mod Units

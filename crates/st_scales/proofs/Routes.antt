@@ -184,7 +184,7 @@ route_near c Tdb Tt r pr =
 route_near c Tdb Tdb r pr = let k = are_near r (units c.delta_ta) pr (is_short c) in (k.here_low, k.here_high)
 
 -- Exact: where K is 0 TDB is TT.
-tdb_is_tt : (c : Deltet) (t : Fraction) → IsFraction t → c.k ≡ pos 0 → TdbIsAtLeast c t t × TdbIsAtMost c t t
+pub tdb_is_tt : (c : Deltet) (t : Fraction) → IsFraction t → c.k ≡ pos 0 → TdbIsAtLeast c t t × TdbIsAtMost c t t
 tdb_is_tt c t pt none = (
   record { at_each = λ n f. (flat t (sine_high c t n) c.k pt.positive (sine_high-den c t n pt) none).0 },
   record { at_each = λ n f. (flat t (sine_low c t n) c.k pt.positive (sine_low-den c t n pt) none).1 },

@@ -8,10 +8,10 @@
 mod deltet;
 mod fault;
 pub mod laws;
-//mod route;
+mod route;
 mod scale;
 
 pub use deltet::Deltet;
 pub use fault::{DeltetFault, DeltetVar};
-//pub use route::convert;
+pub use route::convert;
 pub use scale::Scale;
