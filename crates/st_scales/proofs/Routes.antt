@@ -216,7 +216,8 @@ none r pr =
         shape : (n d w : ℤ) → ((n *ℤ w +ℤ pos 0 *ℤ d) *ℤ d) ≤ℤ (n *ℤ (d *ℤ w))
         shape n d w = simp (numerals, ring) (omega (arith, lin))
 
-crossing : {A : Type 0} {k : ℤ} → (true ≡ false) ⊎ (k ≡ pos 0) → (k ≡ pos 0 → A) → A
+-- on a way that crosses, no sine stands where K is 0 alone
+pub crossing : {A : Type 0} {k : ℤ} → (true ≡ false) ⊎ (k ≡ pos 0) → (k ≡ pos 0 → A) → A
 crossing (inl p) f = absurd (by p)
   where
     by : true ≡ false → ⊥

@@ -131,3 +131,20 @@ plain_back_low c lo hi x none px within = tdb_loosens_high c (units lo) (units l
 
 pub plain_back_high : (c : Deltet) (lo hi : ℤ) (x : Fraction) → c.k ≡ pos 0 → IsFraction x → LiesWithin lo hi x → TdbIsAtLeast c (units hi) x
 plain_back_high c lo hi x none px within = tdb_loosens_low c (units hi) x (units hi) (units_are hi) within.to (tdb_is_tt c (units hi) (units_are hi) none).0
+
+-- a shift by a count of units
+pub shifted : (lo hi d a b : ℤ) (x : Fraction) → a ≡ (lo +ℤ d) → b ≡ (hi +ℤ d) → LiesWithin lo hi x → LiesWithin a b (x +ᶠ units d)
+shifted lo hi d a b x e f within = record {
+  from = le_f_trans (units a) (units lo +ᶠ units d) (x +ᶠ units d) (mul-pos one one) (raised one (of_units a) (plus (of_units lo) (of_units d)) (omega (arith, ints, e)))
+      (le_f_add (units lo) x (units d) (units d) within.from (le_f_refl (units d)));
+  to = le_f_trans (x +ᶠ units d) (units hi +ᶠ units d) (units b) (mul-pos one one) (le_f_add x (units hi) (units d) (units d) within.to (le_f_refl (units d)))
+      (raised one (plus (of_units hi) (of_units d)) (of_units b) (omega (arith, ints, f)));
+}
+
+pub shifted_back_low : (c : Deltet) (u v d : ℤ) (x : Fraction) → IsFraction x → u ≡ (v -ℤ d) → TdbIsAtMost c (units v) x → TdbIsAtMost c (units u +ᶠ units d) x
+shifted_back_low c u v d x px e high =
+    tdb_rises_high c (units u +ᶠ units d) (units v) x (record { positive = mul-pos one one }) (units_are v) px (raised one (plus (of_units u) (of_units d)) (of_units v) (omega (arith, ints, e))) high
+
+pub shifted_back_high : (c : Deltet) (u v d : ℤ) (x : Fraction) → IsFraction x → u ≡ (v -ℤ d) → TdbIsAtLeast c (units v) x → TdbIsAtLeast c (units u +ᶠ units d) x
+shifted_back_high c u v d x px e low =
+    tdb_rises_low c (units v) (units u +ᶠ units d) x (units_are v) (record { positive = mul-pos one one }) px (raised one (of_units v) (plus (of_units u) (of_units d)) (omega (arith, ints, e))) low
