@@ -2,6 +2,7 @@
 -- year of four digits with a month's number, its name, or the place of the day in its year.
 use Rattle.std.specs.Prelude.{◌≡◌, ℕ, false, List, [], ◌∷◌, ◌++◌, ℤ}
 use Rattle.std.specs.Char.{is_ascii_digit}
+use Rattle.st_text.specs.Ascii.{dash}
 use Rattle.st_text.specs.Bytes.{number_of}
 use Rattle.st_text.specs.Scan.{IsDigitRun}
 use Rattle.st_dates.specs.Calendar.{IsCalendarDay, IsDayOfYear, day_number, number_in_year}
@@ -20,12 +21,12 @@ pub data DayText : Type 0 where
   -- YYYY-DOY: year, place in the year
   of_year : List ℕ → List ℕ → DayText
 
--- the whole text of a day; 45 is the byte `-`
+-- the whole text of a day
 abbrev pub day_spelling : DayText → List ℕ
-day_spelling (numeric year month day) = year ++ (45 ∷ (month ++ (45 ∷ day)))
-day_spelling (named year name day) = year ++ (45 ∷ (name ++ (45 ∷ day)))
-day_spelling (day_first day name year) = day ++ (45 ∷ (name ++ (45 ∷ year)))
-day_spelling (of_year year place) = year ++ (45 ∷ place)
+day_spelling (numeric year month day) = year ++ (dash ∷ (month ++ (dash ∷ day)))
+day_spelling (named year name day) = year ++ (dash ∷ (name ++ (dash ∷ day)))
+day_spelling (day_first day name year) = day ++ (dash ∷ (name ++ (dash ∷ year)))
+day_spelling (of_year year place) = year ++ (dash ∷ place)
 
 -- the text is some month's name
 abbrev pub IsMonthName : List ℕ → Type 0

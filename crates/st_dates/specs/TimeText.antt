@@ -1,6 +1,7 @@
 -- The time of day as it is written behind a day. Source: Time Required Reading, for hours,
 -- minutes and seconds with colons between them; which marks may stand before them is a choice of this project.
 use Rattle.std.specs.Prelude.{◌≡◌, ℕ, ◌+◌, ◌*◌, ◌^◌, ◌≤◌, ◌⊎◌, List, [], ◌∷◌, ◌++◌, codes}
+use Rattle.st_text.specs.Ascii.{point, colon}
 use Rattle.st_text.specs.Bytes.{number_of}
 use Rattle.st_dates.specs.Decimals.{units_of_decimals}
 use Rattle.st_dates.specs.declared.clock.TimeOfDay.{TimeOfDay}
@@ -15,11 +16,11 @@ pub data Clock : Type 0 where
   -- H:MM:SS.f: hour, minute, second, decimals of the second
   decimals : List ℕ → List ℕ → List ℕ → List ℕ → Clock
 
--- the whole text of a time; 58 is the byte `:` and 46 the byte `.`
+-- the whole text of a time
 abbrev pub clock_spelling : Clock → List ℕ
-clock_spelling (minutes h m) = h ++ (58 ∷ m)
-clock_spelling (seconds h m s) = h ++ (58 ∷ (m ++ (58 ∷ s)))
-clock_spelling (decimals h m s f) = h ++ (58 ∷ (m ++ (58 ∷ (s ++ (46 ∷ f)))))
+clock_spelling (minutes h m) = h ++ (colon ∷ m)
+clock_spelling (seconds h m s) = h ++ (colon ∷ (m ++ (colon ∷ s)))
+clock_spelling (decimals h m s f) = h ++ (colon ∷ (m ++ (colon ∷ (s ++ (point ∷ f)))))
 
 -- one or two digits, and a number that is at most the last of its kind
 pub record IsField (last : ℕ) (text : List ℕ) : Type 0 where

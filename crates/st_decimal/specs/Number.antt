@@ -2,11 +2,12 @@
 -- sign, digits with an optional point, and an optional exponent behind `E`, `e`, `D` or `d`. The
 -- parts are the bytes as they stand in the text.
 use Rattle.std.specs.Prelude.{◌≡◌, ℕ, ◌+◌, ◌<◌, ◌≤◌, Bool, List, [], ◌∷◌, ◌++◌, length, take, Option, Some, None, ◌==◌, ◌||◌, IsTrue, ⊤}
+use Rattle.st_text.specs.Ascii.{plus, dash, point}
 use Rattle.st_text.specs.Bytes.{are_digits}
 
 -- `+` or `-`
 abbrev pub is_sign : ℕ → Bool
-is_sign b = (b == 43) || (b == 45)
+is_sign b = (b == plus) || (b == dash)
 
 -- `E`, `e`, `D` or `d`
 abbrev pub is_mark : ℕ → Bool
@@ -26,7 +27,7 @@ pub record Parts : Type 0 where
 
 abbrev pub pointed : Option (List ℕ) → List ℕ
 pointed None = []
-pointed (Some digits) = 46 ∷ digits
+pointed (Some digits) = point ∷ digits
 
 abbrev pub marked : Option Exponent → List ℕ
 marked None = []

@@ -1,6 +1,8 @@
 -- The value of a number's parts, and the answer of the reader of numbers.
 use Rattle.std.specs.Prelude.{◌≡◌, ◌≢◌, ℕ, zero, suc, ℤ, pos, negsuc, neg_ℤ, ◌+ℤ◌, ◌-ℤ◌, ◌*◌, ◌%◌, ◌^◌, ◌<◌, ◌≤◌, Bool, true, false, List, [], ◌∷◌, ◌++◌, length, Option, Some, None, Result, Ok, Err, ◌==◌, if◌then◌else◌, unsigned_abs}
 use Rattle.std.specs.List.{list_all}
+use Rattle.st_text.specs.Ascii.{dash, digit_zero}
+use Rattle.st_decimal.specs.Limits.{most_digits, most_exponent}
 use Rattle.st_text.specs.Bytes.{number_of}
 use Rattle.st_decimal.specs.declared.number.Dec.{Dec}
 use Rattle.st_decimal.specs.declared.number.DecFault.{DecFault}
@@ -9,7 +11,7 @@ use Rattle.st_decimal.specs.Number.{Parts, Exponent, AreParts, StopsAt, spelling
 
 -- the digit 0
 abbrev pub is_zero : ℕ → Bool
-is_zero b = b == 48
+is_zero b = b == digit_zero
 
 abbrev pub are_zeros : List ℕ → Bool
 are_zeros digits = list_all is_zero digits
@@ -35,7 +37,7 @@ significant digits = length (skip_zeros (without_end_zeros digits))
 -- whether a text begins with `-`
 abbrev pub is_minus : List ℕ → Bool
 is_minus [] = false
-is_minus (b ∷ more) = b == 45
+is_minus (b ∷ more) = b == dash
 
 abbrev pub is_negative : ℤ → Bool
 is_negative (pos n) = false
@@ -71,13 +73,12 @@ abbrev pub IsValue : Parts → Dec → Type 0
 IsValue p d =
     IsScaled (is_minus p.sign) (number_of (digits_of p)) (exponent_of p.exponent -ℤ pos (length (decimals_of p.decimals))) d
 
--- what the reader answers to a text. The limits, 30 digits and an exponent from -400 to 400, are
--- this project's own
+-- what the reader answers to a text. The limits are this project's own
 abbrev pub ReadsDec : List ℕ → Result Dec DecFault → Type 0
 ReadsDec text (Ok d) =
-    (p : Parts) × AreParts p × (text ≡ spelling p) × (significant (digits_of p) ≤ 30) × (exponent_size p.exponent ≤ 400) × IsValue p d
+    (p : Parts) × AreParts p × (text ≡ spelling p) × (significant (digits_of p) ≤ most_digits) × (exponent_size p.exponent ≤ most_exponent) × IsValue p d
 ReadsDec text (Err Empty) = text ≡ []
 ReadsDec text (Err (BadByte k)) = (0 < length text) × StopsAt text k
-ReadsDec text (Err TooManyDigits) = (p : Parts) × AreParts p × (text ≡ spelling p) × (30 < significant (digits_of p))
+ReadsDec text (Err TooManyDigits) = (p : Parts) × AreParts p × (text ≡ spelling p) × (most_digits < significant (digits_of p))
 ReadsDec text (Err BadExponent) =
-    (p : Parts) × AreParts p × (text ≡ spelling p) × (significant (digits_of p) ≤ 30) × (400 < exponent_size p.exponent)
+    (p : Parts) × AreParts p × (text ≡ spelling p) × (significant (digits_of p) ≤ most_digits) × (most_exponent < exponent_size p.exponent)

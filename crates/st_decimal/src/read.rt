@@ -3,6 +3,7 @@
 ghost use Rattle.std.specs.Prelude.{◌≡◌, ◌≤◌, length, Result};
 ghost use Rattle.st_decimal.specs.declared.number.Dec.{Dec as Decimal};
 ghost use Rattle.st_decimal.specs.declared.number.DecFault.{DecFault as Fault};
+ghost use Rattle.st_decimal.specs.Limits.{most_number_bytes};
 ghost use Rattle.st_decimal.specs.Value.{ReadsDec};
 ghost use Rattle.st_decimal.specs.NumberMachine.{dec_of};
 
@@ -12,13 +13,15 @@ use crate::place::number_stop;
 use crate::value::value;
 
 /// Reads a number: an optional sign, digits with an optional point, or a point and at least one
-/// digit, and an optional exponent behind `E`, `e`, `D` or `d`, as NAIF's Kernel Required Reading
-/// has it.
+/// digit, and an optional exponent behind `E`, `e`, `D` or `d`. The text has at most 1,000 bytes.
 ///
-/// The errors come in the order of `DecFault`'s variants: the first whose condition holds is the
-/// answer.
+/// Source: NAIF's Kernel Required Reading.
+///
+/// # Errors
+///
+/// The first of `DecFault`'s variants whose condition holds.
 pub fn read_dec(text: &[u8]) -> Result<Dec, DecFault>
-    requires { length text.now ≤ 1000 }
+    requires { length text.now ≤ most_number_bytes }
     ensures reads { ReadsDec text.now result }
     // No other answer meets it.
     ensures only { (answer : Result Decimal Fault) → ReadsDec text.now answer → result ≡ answer }
@@ -29,7 +32,7 @@ pub fn read_dec(text: &[u8]) -> Result<Dec, DecFault>
 
 #[tactic(auto, unfolding(crate::specs::NumberMachine::dec_of))]
 fn read(text: &[u8]) -> Result<Dec, DecFault>
-    requires { length text.now ≤ 1000 }
+    requires { length text.now ≤ most_number_bytes }
     ensures { result ≡ dec_of text.now }
 {
     if text.is_empty() {

@@ -3,7 +3,8 @@ use Rattle.std.proofs.Common.{inl, inr, ◌⊎◌, ◌≡◌, ℕ, ◌+◌, fals
 use Rattle.std.proofs.lemmas.List.{append-nil}
 use Rattle.st_text.specs.Lines.{lines_of}
 use Rattle.st_kernel_text.specs.Fault.{Fault, fails}
-use Rattle.st_kernel_text.specs.Faults.{Row, between, behind_name, behind_sign, in_list, behind_values, Stands, HasFault, IsUnfinished}
+use Rattle.st_kernel_text.specs.FaultSteps.{HasFault}
+use Rattle.st_kernel_text.specs.Faults.{Row, between, behind_name, behind_sign, in_list, behind_values, Stands, IsUnfinished}
 use Rattle.st_kernel_text.specs.File.{data_text, reads_behind, AreGood, IsTooLong, HasBadByte, ReadsTo, HasBadLine, HasBadToken, HasNoEnd, Reads, Agree}
 use Rattle.st_kernel_text.specs.Grammar.{Data}
 use Rattle.st_kernel_text.specs.LinesMachine.{line_of, lines_from, read_of}
@@ -16,10 +17,12 @@ use Rattle.st_kernel_text.specs.declared.fault.TextFault.TheVariants.{At, OutOfM
 use Rattle.st_kernel_text.specs.declared.kernel.Kernel.{Kernel}
 use Rattle.st_kernel_text.specs.declared.parser.Parser.{Parser}
 use Rattle.st_kernel_text.specs.declared.parser.Stage.TheVariants.{Signed, InList}
+use Rattle.st_kernel_text.proofs.DataLines.{data_lines}
 use Rattle.st_kernel_text.proofs.Forced.{fault_forced}
 use Rattle.st_kernel_text.proofs.LineLaws.{kernel, with, good_lines, long_line, bad_line, lines-append, lines_leave, FirstBad, good_or_bad}
 use Rattle.st_kernel_text.proofs.Live.{Live, live_between}
 use Rattle.st_kernel_text.proofs.LiveTokens.{Outcomes, went_all, broke_all, live_steps}
+use Rattle.st_kernel_text.proofs.PlainTable.{plain_fault, stopped_fault}
 use Rattle.st_kernel_text.proofs.ReadAll.{all_read}
 use Rattle.st_kernel_text.proofs.Rows.{row_read, signed_read, listed_read}
 use Rattle.st_kernel_text.proofs.Settled.{Settles, settled, live_row, live_end, Ends, ends_well, ends_badly}
@@ -84,7 +87,7 @@ token_forced : (bytes : List ℕ) (n : ℕ) (cause : TextCause) → HasBadToken 
 token_forced bytes n cause h =
     failed (lines_of bytes) (record { line = n; cause = cause })
     (ap (lines_from (kernel start false) 1) h.whole
-    ∙ front_fails (record { line = n; cause = cause }) h.front h.more h.good (fault_forced (data_of_lines h.front) n cause h.fault))
+    ∙ front_fails (record { line = n; cause = cause }) h.front h.more h.good (fault_forced (data_of_lines h.front) n cause (stopped_fault (data_of_lines h.front) n cause (data_lines false 1 h.front) h.fault)))
 
 unfinished_forced : (row : Row) (t : Data) (n : ℕ) (cause : TextCause) → Stands row t [] → IsUnfinished row n cause
     → (p : Parser) × ((steps_of start t ≡ Ok p) × (finish_of p ≡ fails n cause))
@@ -140,7 +143,8 @@ token_is bytes front more f w good h = record {
   front = front;
   more = more;
   good = good;
-  fault = subst (λ (z : Data). HasFault z f.line f.cause) (append-nil (data_of_lines front)) (broke_all [] (data_of_lines front) f h []);
+  fault = plain_fault (data_of_lines front) f.line f.cause (data_lines false 1 front)
+  (subst (λ (z : Data). HasFault z f.line f.cause) (append-nil (data_of_lines front)) (broke_all [] (data_of_lines front) f h []));
   whole = w;
 }
 

@@ -10,7 +10,8 @@ use Rattle.st_text.specs.Bytes.{is_blank}
 use Rattle.st_decimal.specs.declared.number.Dec.{Dec}
 use Rattle.st_kernel_text.specs.Bytes.{is_space, is_separator, is_name_byte, is_run_byte}
 use Rattle.st_kernel_text.specs.Fault.{Fault, fails}
-use Rattle.st_kernel_text.specs.Faults.{Row, between, behind_name, behind_sign, in_list, behind_values, Stands, Breaks, HasFault, HasNoName, HasNoSign, HasPlusAlone, HasBadRun, HasOpenText, HasBadEnd, HasBadValue, HasOtherKind, BeginsWithout, EndsName, is_quote, is_before_value}
+use Rattle.st_kernel_text.specs.FaultSteps.{Breaks, HasFault, HasNoName, HasNoSign, HasPlusAlone, HasBadRun, HasOpenText, HasBadEnd, HasBadValue, HasOtherKind, BeginsWithout, is_quote}
+use Rattle.st_kernel_text.specs.Faults.{Row, between, behind_name, behind_sign, in_list, behind_values, Stands, EndsName, is_before_value}
 use Rattle.st_kernel_text.specs.Grammar.{Data, plain, IsName, same_kind}
 use Rattle.st_kernel_text.specs.ParserMachine.{◌>>=◌, fresh, is_name, ends_in_plus, without_last, start_of, named_of, put_of, taken_of, step_of, steps_of}
 use Rattle.st_kernel_text.specs.Values.{ReadsRun, cause_of_run, may_follow}

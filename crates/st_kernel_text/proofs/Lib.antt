@@ -1,3 +1,4 @@
+pub mod DataLines
 mod Examples
 pub mod FileLaws
 pub mod Forced
@@ -10,6 +11,10 @@ pub mod LiveNames
 pub mod LiveSigns
 pub mod LiveTokens
 pub mod LiveValues
+pub mod PlainNames
+pub mod PlainScan
+pub mod PlainTable
+pub mod PlainValues
 pub mod ReadAll
 pub mod ReadLines
 pub mod ReadValues

@@ -4,7 +4,8 @@ use Rattle.std.specs.List.{list_all}
 use Rattle.st_text.specs.Bytes.{is_blank}
 use Rattle.st_kernel_text.specs.Bytes.{is_name_byte, is_run_byte}
 use Rattle.st_kernel_text.specs.Fault.{Fault}
-use Rattle.st_kernel_text.specs.Faults.{HasFault, StandsSigned}
+use Rattle.st_kernel_text.specs.FaultSteps.{HasFault}
+use Rattle.st_kernel_text.specs.Faults.{StandsSigned}
 use Rattle.st_kernel_text.specs.Grammar.{Data, plain, IsName, SpellsHead, AreOfOneKind, SpellsItems, SpellsValues, SpellsAll}
 use Rattle.st_kernel_text.specs.ParserMachine.{fresh}
 use Rattle.st_kernel_text.specs.Values.{IsContent, quoted}

@@ -6,7 +6,8 @@ use Rattle.std.proofs.lemmas.Bool.Decides.{nat_tests}
 use Rattle.std.proofs.lemmas.Grind.{common_steps}
 use Rattle.std.proofs.lemmas.List.{append-nil, length_push}
 use Rattle.st_kernel_text.specs.Bytes.{is_separator, is_run_byte}
-use Rattle.st_kernel_text.specs.Faults.{in_list, HasOtherKind}
+use Rattle.st_kernel_text.specs.FaultSteps.{HasOtherKind}
+use Rattle.st_kernel_text.specs.Faults.{in_list}
 use Rattle.st_kernel_text.specs.Grammar.{Data, plain, AreOfOneKind, SpellsItems}
 use Rattle.st_kernel_text.specs.ParserMachine.{put_of, list_of, step_of}
 use Rattle.st_kernel_text.specs.ValueMachine.{fits}

@@ -6,7 +6,8 @@ use Rattle.std.proofs.lemmas.Bool.{and_parts, and_from, cond_both, eqb-true, eq-
 use Rattle.std.proofs.lemmas.List.{append-nil}
 use Rattle.st_text.specs.Bytes.{is_blank}
 use Rattle.st_kernel_text.specs.Bytes.{is_space, is_name_byte}
-use Rattle.st_kernel_text.specs.Faults.{between, behind_name, HasFault, BeginsWithout, EndsName}
+use Rattle.st_kernel_text.specs.FaultSteps.{HasFault, BeginsWithout}
+use Rattle.st_kernel_text.specs.Faults.{between, behind_name, EndsName}
 use Rattle.st_kernel_text.specs.Grammar.{Data, plain, IsName, SpellsHead, SpellsAll}
 use Rattle.st_kernel_text.specs.ParserMachine.{fresh, is_name, ends_in_plus, without_last, named_of, added_of, step_of}
 use Rattle.st_kernel_text.specs.declared.assignment.Assignment.{Assignment}

@@ -10,7 +10,7 @@ use Rattle.std.proofs.lemmas.List.Folds.{list_all-append}
 use Rattle.st_decimal.specs.declared.number.Dec.{Dec}
 use Rattle.st_kernel_text.specs.Bytes.{is_run_byte}
 use Rattle.st_kernel_text.specs.Fault.{Fault}
-use Rattle.st_kernel_text.specs.Faults.{HasFault, BeginsWithout, is_quote}
+use Rattle.st_kernel_text.specs.FaultSteps.{HasFault, BeginsWithout, is_quote}
 use Rattle.st_kernel_text.specs.Grammar.{Data, plain}
 use Rattle.st_kernel_text.specs.ParserMachine.{◌>>=◌, taken_of, step_of, steps_of}
 use Rattle.st_kernel_text.specs.ValueMachine.{number_of_run}
@@ -114,13 +114,13 @@ quote_breaks t front text q k n b content waits c e w how rest =
     (value_breaks front ((k, 39) ∷ (text ++ ((n, b) ∷ rest))) q n BadString waits (or_right _ _ refl)
     (inr (refl, inr (record { opened = k; content = content; text = text; byte = b; more = rest; content_is = c; written = e; breaks = how; whole = refl }))))
 
-content_more : (content : List ℕ) (b : ℕ) → IsContent content → nat_lt (length content) 80 ≡ true → (b == 10) ≡ false → IsContent (content ++ b ∷ [])
+pub content_more : (content : List ℕ) (b : ℕ) → IsContent content → nat_lt (length content) 80 ≡ true → (b == 10) ≡ false → IsContent (content ++ b ∷ [])
 content_more content b c h e = record {
   most = omega (arith, length_push content b, ltb-true (length content) 80 h);
   one_line = list_all-append is_no_line_end content (b ∷ []) ∙ and_from _ _ c.one_line (and_from _ _ (not_from_false _ e) refl);
 }
 
-full : (content : List ℕ) → IsContent content → nat_lt (length content) 80 ≡ false → length content ≡ 80
+pub full : (content : List ℕ) → IsContent content → nat_lt (length content) 80 ≡ false → length content ≡ 80
 full content c h = omega (arith, c.most, ltb-false (length content) 80 h)
 
 text_longer : (t front text : Data) (k n b : ℕ) → t ≡ front ++ ((k, 39) ∷ text) → t ++ (n, b) ∷ [] ≡ front ++ ((k, 39) ∷ (text ++ (n, b) ∷ []))

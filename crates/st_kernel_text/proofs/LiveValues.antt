@@ -7,7 +7,8 @@ use Rattle.std.proofs.lemmas.Bool.Decides.{nat_tests}
 use Rattle.std.proofs.lemmas.Grind.{common_steps}
 use Rattle.st_text.specs.Bytes.{is_blank}
 use Rattle.st_kernel_text.specs.Bytes.{is_space, is_run_byte}
-use Rattle.st_kernel_text.specs.Faults.{behind_sign, in_list, behind_values, HasFault, HasBadValue, BeginsWithout, is_before_value, StandsListed}
+use Rattle.st_kernel_text.specs.FaultSteps.{HasFault, HasBadValue, BeginsWithout}
+use Rattle.st_kernel_text.specs.Faults.{behind_sign, in_list, behind_values, is_before_value, StandsListed}
 use Rattle.st_kernel_text.specs.Grammar.{Data, plain, SpellsValues, SpellsAll}
 use Rattle.st_kernel_text.specs.ParserMachine.{fresh, closed_of, step_of}
 use Rattle.st_kernel_text.specs.Values.{may_follow}

@@ -1,16 +1,17 @@
--- The first token that cannot go on from the spelling before it. A token and the byte directly behind
--- it stand on one line, since the end of a line counts to the line that it ends: so the line of a
--- fault is the number of the byte at which the token breaks.
-use Rattle.std.specs.Prelude.{◌≡◌, ℕ, Bool, false, List, [], ◌∷◌, ◌++◌, length, ◌==◌, ◌||◌, IsTrue, ◌⊎◌}
+-- The first token that may not stand where it does: all before it is spelled as it should be, and what
+-- should stand here doesn't. No token goes over the end of a line, so the line of a fault is that of the
+-- token's first byte. Source for what may stand: NAIF's Kernel Required Reading, by `Grammar`.
+use Rattle.std.specs.Prelude.{◌≡◌, ℕ, Bool, false, List, [], ◌∷◌, ◌++◌, ◌==◌, ◌||◌, ⊤, ◌⊎◌, if◌then◌else◌}
+use Rattle.st_text.specs.Ascii.{quote, open_paren, close_paren, at_sign}
 use Rattle.st_text.specs.Bytes.{is_blank}
-use Rattle.st_decimal.specs.declared.number.Dec.{Dec}
-use Rattle.st_kernel_text.specs.Bytes.{is_space, is_name_byte, is_run_byte}
-use Rattle.st_kernel_text.specs.Grammar.{Data, plain, AreAll, IsName, SpellsHead, same_kind, AreOfOneKind, SpellsItems, SpellsValues, SpellsAll}
-use Rattle.st_kernel_text.specs.Values.{Spells, ReadsRun, IsContent, quoted, cause_of_run, may_follow}
+use Rattle.st_kernel_text.specs.Bytes.{is_space, is_name_byte}
+use Rattle.st_kernel_text.specs.Grammar.{Data, plain, AreAll, IsName, SpellsSign, SpellsHead, EndsValue, same_kind, AreOfOneKind, SpellsItems, SpellsValues, SpellsAll}
+use Rattle.st_kernel_text.specs.Values.{Spells, may_follow}
 use Rattle.st_kernel_text.specs.declared.assignment.Assignment.{Assignment}
 use Rattle.st_kernel_text.specs.declared.assignment.Mode.{Mode}
+use Rattle.st_kernel_text.specs.declared.assignment.Mode.TheVariants.{Add}
 use Rattle.st_kernel_text.specs.declared.fault.TextCause.{TextCause}
-use Rattle.st_kernel_text.specs.declared.fault.TextCause.TheVariants.{NoName, NoSign, NoValue, BadString, MixedKinds, Unclosed, TrailingText}
+use Rattle.st_kernel_text.specs.declared.fault.TextCause.TheVariants.{NoName, NoSign, NoValue, BadNumber, BadString, BadDate, MixedKinds, Unclosed, TrailingText}
 use Rattle.st_kernel_text.specs.declared.value.Value.{Value}
 
 -- where the next token stands
@@ -62,7 +63,7 @@ pub record StandsListed (n : ℕ) (vs : List Value) (t : Data) : Type 0 where
   pub signed : StandsSigned sign_line front
   pub kind : AreOfOneKind vs
   pub spells : SpellsItems vs items []
-  pub whole : t ≡ front ++ ((n, 40) ∷ items)
+  pub whole : t ≡ front ++ ((n, open_paren) ∷ items)
 
 pub record StandsClosed (t rest : Data) : Type 0 where
   pub sign_line : ℕ
@@ -83,113 +84,64 @@ Stands (behind_sign n) t rest = StandsSigned n t
 Stands (in_list n vs) t rest = StandsListed n vs t
 Stands behind_values t rest = StandsClosed t rest
 
--- the data begin with a byte that fails the test
-abbrev pub BeginsWithout : (ℕ → Bool) → Data → Type 0
-BeginsWithout test [] = ⊥
-BeginsWithout test (b ∷ t) = test b.1 ≡ false
+-- a sign stands here
+abbrev pub HasSignOf : Mode → Data → Type 0
+HasSignOf mode t = (n : ℕ) × (sign : Data) × (rest : Data) × SpellsSign mode n sign × (t ≡ sign ++ rest)
 
--- the longest run of bytes of a name is no name; of `+=` behind it the `+` is the sign's
-pub record HasNoName (t : Data) (n : ℕ) : Type 0 where
-  pub word : Data
-  pub byte : ℕ
-  pub more : Data
-  pub begins : BeginsWithout is_space t
-  pub bytes : AreAll is_name_byte word
-  pub longest : is_name_byte byte ≡ false
-  pub none : IsName (plain word) → ⊥
-  pub none_added : (front : List ℕ) → byte ≡ 61 → plain word ≡ front ++ 43 ∷ [] → IsName front → ⊥
-  pub whole : t ≡ word ++ ((n, byte) ∷ more)
+abbrev pub HasSign : Data → Type 0
+HasSign t = (mode : Mode) × HasSignOf mode t
 
--- neither a blank nor a sign
-pub record HasNoSign (t : Data) (n : ℕ) : Type 0 where
-  pub byte : ℕ
-  pub more : Data
-  pub other : is_blank byte || (byte == 61) || (byte == 43) ≡ false
-  pub whole : t ≡ (n, byte) ∷ more
+-- a name stands here: the bytes behind it are none of a name, or they are `+=`
+pub record HasName (t : Data) : Type 0 where
+  pub name : Data
+  pub rest : Data
+  pub is : IsName (plain name)
+  pub ends : EndsName rest ⊎ HasSignOf Add rest
+  pub whole : t ≡ name ++ rest
 
--- a `+` without its `=`
-pub record HasPlusAlone (t : Data) (n : ℕ) : Type 0 where
-  pub line : ℕ
-  pub byte : ℕ
-  pub more : Data
-  pub other : (byte == 61) ≡ false
-  pub whole : t ≡ (line, 43) ∷ ((n, byte) ∷ more)
-
-pub record HasByte (byte : ℕ) (t : Data) (n : ℕ) : Type 0 where
-  pub more : Data
-  pub whole : t ≡ (n, byte) ∷ more
-
--- the longest run of bytes of a number is followed by `(` or `'`, or is neither number nor date
-pub record HasBadRun (t : Data) (n : ℕ) (cause : TextCause) : Type 0 where
-  pub word : Data
-  pub byte : ℕ
-  pub more : Data
-  pub bytes : AreAll is_run_byte word
-  pub longest : is_run_byte byte ≡ false
-  pub none : IsTrue (may_follow byte) → (d : Dec) → ReadsRun (plain word) d → ⊥
-  pub cause_is : cause ≡ cause_of_run (plain word)
-  pub whole : t ≡ word ++ ((n, byte) ∷ more)
-
--- a string that goes on to the end of its line, or has an 81st byte that is no quote
-pub record HasOpenText (t : Data) (n : ℕ) : Type 0 where
-  pub opened : ℕ
-  pub content : List ℕ
-  pub text : Data
-  pub byte : ℕ
-  pub more : Data
-  pub content_is : IsContent content
-  pub written : plain text ≡ quoted content
-  pub breaks : (byte ≡ 10) ⊎ ((length content ≡ 80) × ((byte == 39) ≡ false))
-  pub whole : t ≡ (opened, 39) ∷ (text ++ ((n, byte) ∷ more))
-
--- a string that is followed by something else than a separator or `)`, or has a quote as its 81st byte
-pub record HasBadEnd (t : Data) (n : ℕ) : Type 0 where
-  pub opened : ℕ
-  pub content : List ℕ
-  pub text : Data
-  pub byte : ℕ
-  pub more : Data
-  pub content_is : IsContent content
-  pub written : plain text ≡ quoted content ++ 39 ∷ []
-  pub breaks : ((byte ≡ 39) × (length content ≡ 80)) ⊎ (((byte == 39) ≡ false) × (may_follow byte ≡ false))
-  pub whole : t ≡ (opened, 39) ∷ (text ++ ((n, byte) ∷ more))
-
-abbrev pub is_quote : ℕ → Bool
-is_quote b = b == 39
-
--- no value stands here, by what the first byte announces
-abbrev pub HasBadValue : Data → ℕ → TextCause → Type 0
-HasBadValue t n cause =
-    (BeginsWithout is_quote t × HasBadRun t n cause) ⊎ ((cause ≡ BadString) × (HasOpenText t n ⊎ HasBadEnd t n))
-
--- a value of another kind than the first before it
-pub record HasOtherKind (vs : List Value) (t : Data) (n : ℕ) : Type 0 where
-  pub first : Value
-  pub others : List Value
+-- a value that fits stands here
+pub record HasValue (Fits : Value → Type 0) (t : Data) : Type 0 where
   pub value : Value
   pub text : Data
-  pub byte : ℕ
-  pub more : Data
-  pub before : vs ≡ first ∷ others
-  pub other : same_kind first value ≡ false
+  pub rest : Data
+  pub fits : Fits value
   pub spells : Spells value (plain text)
-  pub ends : IsTrue (may_follow byte)
-  pub whole : t ≡ text ++ ((n, byte) ∷ more)
+  pub ends : EndsValue rest
+  pub whole : t ≡ text ++ rest
 
+abbrev pub HasAnyValue : Data → Type 0
+HasAnyValue t = HasValue (λ v. ⊤) t
+
+-- of another kind than the first of these
+abbrev pub IsOther : List Value → Value → Type 0
+IsOther [] v = ⊥
+IsOther (first ∷ others) v = same_kind first v ≡ false
+
+-- what is called that no value stands here, by the first byte
+abbrev pub cause_of : ℕ → TextCause
+cause_of b = if b == quote then BadString else (if b == at_sign then BadDate else BadNumber)
+
+-- no value may begin with it, and none is announced by it
 abbrev pub is_before_value : ℕ → Bool
-is_before_value b = is_space b || (b == 40) || (b == 41)
+is_before_value b = is_space b || (b == open_paren) || (b == close_paren)
 
--- the next token of a row breaks at a byte of line n
+-- the token that begins with this byte may not stand in the row
+abbrev pub BreaksAt : Row → ℕ → Data → TextCause → Type 0
+BreaksAt between b t cause = (cause ≡ NoName) × (is_space b ≡ false) × (HasName t → ⊥)
+BreaksAt behind_name b t cause = (cause ≡ NoSign) × (is_blank b ≡ false) × (HasSign t → ⊥)
+BreaksAt (behind_sign line) b t cause =
+    ((cause ≡ NoValue) × (b ≡ close_paren))
+    ⊎ ((cause ≡ cause_of b) × (is_before_value b ≡ false) × (HasAnyValue t → ⊥))
+BreaksAt (in_list line vs) b t cause =
+    ((cause ≡ NoValue) × (b ≡ close_paren) × (vs ≡ []))
+    ⊎ (((cause ≡ cause_of b) × (may_follow b ≡ false) × (HasAnyValue t → ⊥))
+    ⊎ ((cause ≡ MixedKinds) × HasValue (IsOther vs) t))
+BreaksAt behind_values b t cause = (cause ≡ TrailingText) × (is_space b ≡ false)
+
+-- a token of line n may not stand here, where the data begin with it
 abbrev pub Breaks : Row → Data → ℕ → TextCause → Type 0
-Breaks between t n cause = (cause ≡ NoName) × HasNoName t n
-Breaks behind_name t n cause = (cause ≡ NoSign) × (HasNoSign t n ⊎ HasPlusAlone t n)
-Breaks (behind_sign line) t n cause =
-    ((cause ≡ NoValue) × HasByte 41 t n) ⊎ (BeginsWithout is_before_value t × HasBadValue t n cause)
-Breaks (in_list line vs) t n cause =
-    ((cause ≡ NoValue) × (vs ≡ []) × HasByte 41 t n)
-    ⊎ (((cause ≡ MixedKinds) × HasOtherKind vs t n) ⊎ (BeginsWithout may_follow t × HasBadValue t n cause))
-Breaks behind_values t n cause =
-    (cause ≡ TrailingText) × (BeginsWithout is_space t) × ((byte : ℕ) × HasByte byte t n)
+Breaks row [] n cause = ⊥
+Breaks row (b ∷ t) n cause = (n ≡ b.0) × BreaksAt row b.1 (b ∷ t) cause
 
 pub record HasFault (t : Data) (n : ℕ) (cause : TextCause) : Type 0 where
   pub row : Row

@@ -2,6 +2,8 @@
 -- stand between the markers \begindata and \begintext, all else is commentary.
 use Rattle.std.specs.Prelude.{◌≡◌, ℕ, ◌+◌, ◌<◌, ◌≤◌, Bool, true, false, ◌&&◌, List, [], ◌∷◌, ◌++◌, length, drop, map, codes, nat_eq, Result, Ok, Err, ⊤, ◌⊎◌, if◌then◌else◌}
 use Rattle.std.specs.List.{list_all, starts_with}
+use Rattle.st_text.specs.Ascii.{line_feed}
+use Rattle.st_kernel_text.specs.Limits.{most_line_bytes}
 use Rattle.st_text.specs.Bytes.{is_blank}
 use Rattle.st_text.specs.Lines.{skip_blanks, lines_of}
 use Rattle.st_kernel_text.specs.Bytes.{is_allowed}
@@ -41,7 +43,7 @@ abbrev pub numbered : ℕ → List ℕ → Data
 numbered n line = map (λ b. (n, b)) line
 
 abbrev pub line_data : Bool → ℕ → List ℕ → Data
-line_data reading n line = if is_data reading line then numbered n line ++ (n, 10) ∷ [] else []
+line_data reading n line = if is_data reading line then numbered n line ++ (n, line_feed) ∷ [] else []
 
 -- the data lines among lines, of which the first has number n, each with its end
 abbrev pub data_text : Bool → ℕ → List (List ℕ) → Data
@@ -50,7 +52,7 @@ data_text reading n (line ∷ more) = line_data reading n line ++ data_text (rea
 
 -- short enough, and in data without other bytes than tab and 32 to 126
 pub record IsGood (reading : Bool) (line : List ℕ) : Type 0 where
-  pub short : length line ≤ 1000
+  pub short : length line ≤ most_line_bytes
   pub bytes : is_data reading line ≡ true → list_all is_allowed line ≡ true
 
 abbrev pub AreGood : Bool → List (List ℕ) → Type 0
@@ -58,10 +60,10 @@ AreGood reading [] = ⊤
 AreGood reading (line ∷ more) = IsGood reading line × AreGood (reads_after reading line) more
 
 abbrev pub IsTooLong : List ℕ → TextCause → Type 0
-IsTooLong line cause = (1000 < length line) × (cause ≡ LineTooLong)
+IsTooLong line cause = (most_line_bytes < length line) × (cause ≡ LineTooLong)
 
 pub record HasBadByte (reading : Bool) (line : List ℕ) (cause : TextCause) : Type 0 where
-  pub short : length line ≤ 1000
+  pub short : length line ≤ most_line_bytes
   pub in_data : is_data reading line ≡ true
   pub bytes : list_all is_allowed line ≡ false
   pub cause_is : cause ≡ BadByte

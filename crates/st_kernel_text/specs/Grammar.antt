@@ -1,8 +1,9 @@
 -- The assignments of a kernel, after NAIF's Kernel Required Reading. The
--- limit of 32 bytes for a name is that of the Toolkit's kernel pool. 40 is `(`, 41 `)`, 43 `+`, 61 `=`
--- and 10 the end of a line.
+-- limit of 32 bytes for a name is that of the Toolkit's kernel pool. A line feed is the end of a line.
 use Rattle.std.specs.Prelude.{◌≡◌, ℕ, ◌<◌, ◌≤◌, Bool, true, false, List, [], ◌∷◌, ◌++◌, length, IsTrue, ⊤, ◌⊎◌}
 use Rattle.std.specs.List.{list_all}
+use Rattle.st_text.specs.Ascii.{line_feed, open_paren, close_paren, plus, equals_sign}
+use Rattle.st_kernel_text.specs.Limits.{most_name_bytes}
 use Rattle.st_text.specs.Bytes.{is_blank}
 use Rattle.st_kernel_text.specs.Bytes.{is_space, is_separator, is_name_byte}
 use Rattle.st_kernel_text.specs.Values.{Spells, may_follow}
@@ -28,14 +29,14 @@ AreAll test t = IsTrue (list_all test (plain t))
 -- 1 to 32 bytes without blanks, `(`, `)`, `,`, `=` and `'`, the last of them no `+`
 pub record IsName (name : List ℕ) : Type 0 where
   pub some : 0 < length name
-  pub most : length name ≤ 32
+  pub most : length name ≤ most_name_bytes
   pub bytes : IsTrue (list_all is_name_byte name)
-  pub last : (front : List ℕ) → name ≡ front ++ 43 ∷ [] → ⊥
+  pub last : (front : List ℕ) → name ≡ front ++ plus ∷ [] → ⊥
 
 -- `=` of line n, or `+=` whose `=` is of line n
 abbrev pub SpellsSign : Mode → ℕ → Data → Type 0
-SpellsSign Set n t = t ≡ (n, 61) ∷ []
-SpellsSign Add n t = (k : ℕ) × (t ≡ (k, 43) ∷ ((n, 61) ∷ []))
+SpellsSign Set n t = t ≡ (n, equals_sign) ∷ []
+SpellsSign Add n t = (k : ℕ) × (t ≡ (k, plus) ∷ ((n, equals_sign) ∷ []))
 
 -- an assignment up to its value: a name, blanks, a sign of line n, and what may stand before a value
 pub record SpellsHead (name : List ℕ) (mode : Mode) (n : ℕ) (t : Data) : Type 0 where
@@ -96,8 +97,8 @@ pub record SpellsList (vs : List Value) (t : Data) : Type 0 where
   pub closed : ℕ
   pub some : 0 < length vs
   pub kind : AreOfOneKind vs
-  pub spells : SpellsItems vs items ((closed, 41) ∷ [])
-  pub whole : t ≡ (opened, 40) ∷ (items ++ (closed, 41) ∷ [])
+  pub spells : SpellsItems vs items ((closed, close_paren) ∷ [])
+  pub whole : t ≡ (opened, open_paren) ∷ (items ++ (closed, close_paren) ∷ [])
 
 abbrev pub SpellsValues : List Value → Data → Data → Type 0
 SpellsValues vs t follow = SpellsAlone vs t follow ⊎ SpellsList vs t
@@ -110,9 +111,9 @@ pub record SpellsAssignment (a : Assignment) (t : Data) : Type 0 where
   pub blanks : Data
   pub end_line : ℕ
   pub head_is : SpellsHead a.name a.mode sign_line head
-  pub body_is : SpellsValues a.values body (blanks ++ (end_line, 10) ∷ [])
+  pub body_is : SpellsValues a.values body (blanks ++ (end_line, line_feed) ∷ [])
   pub are_blanks : AreAll is_blank blanks
-  pub whole : t ≡ head ++ (body ++ (blanks ++ (end_line, 10) ∷ []))
+  pub whole : t ≡ head ++ (body ++ (blanks ++ (end_line, line_feed) ∷ []))
 
 pub record SpellsNext (a : Assignment) (More : Data → Type 0) (t : Data) : Type 0 where
   pub gap : Data

@@ -1,8 +1,10 @@
 pub mod Bytes
 pub mod Fault
+pub mod FaultSteps
 pub mod Faults
 pub mod File
 pub mod Grammar
+pub mod Limits
 pub mod LinesMachine
 pub mod ParserMachine
 pub mod ValueMachine

@@ -1,7 +1,9 @@
 -- What a value of a kernel is, after NAIF's Kernel Required Reading: a string
--- between quotes, a date behind an `@`, or a number. 39 is `'`, 64 is `@`, 10 is the end of a line.
+-- between quotes, a date behind an `@`, or a number.
 use Rattle.std.specs.Prelude.{◌≡◌, ℕ, ℤ, ◌≤◌, Bool, not, List, [], ◌∷◌, ◌++◌, length, Ok, ◌==◌, ◌||◌, IsTrue, MatchBool, if◌then◌else◌}
 use Rattle.std.specs.List.{list_all}
+use Rattle.st_text.specs.Ascii.{line_feed, quote, close_paren, at_sign}
+use Rattle.st_kernel_text.specs.Limits.{most_line_bytes, most_string_bytes}
 use Rattle.st_decimal.specs.declared.number.Dec.{Dec}
 use Rattle.st_decimal.specs.Value.{ReadsDec, IsOfUnits18}
 use Rattle.st_dates.specs.AtDate.{ReadsAtDate}
@@ -17,32 +19,32 @@ pub record ReadsDate (text : List ℕ) (d : Dec) : Type 0 where
   pub reads : ReadsAtDate text (Ok instant)
   pub seconds : IsOfUnits18 instant d
 
--- the text is a number; no line has more than 1,000 bytes, so no number has
+-- the text is a number; no line has more bytes, so no number has
 pub record ReadsNumber (text : List ℕ) (d : Dec) : Type 0 where
-  pub short : length text ≤ 1000
+  pub short : length text ≤ most_line_bytes
   pub reads : ReadsDec text (Ok d)
 
 -- a date with its `@`, or a number
 abbrev pub ReadsRun : List ℕ → Dec → Type 0
 ReadsRun [] d = ⊥
-ReadsRun (b ∷ text) d = MatchBool (b == 64) (ReadsDate text d) (ReadsNumber (b ∷ text) d)
+ReadsRun (b ∷ text) d = MatchBool (b == at_sign) (ReadsDate text d) (ReadsNumber (b ∷ text) d)
 
 -- what a run that is neither is called, by its first byte
 abbrev pub cause_of_run : List ℕ → TextCause
 cause_of_run [] = BadNumber
-cause_of_run (b ∷ text) = if b == 64 then BadDate else BadNumber
+cause_of_run (b ∷ text) = if b == at_sign then BadDate else BadNumber
 
 -- the content of a string as it is written: each quote twice
 abbrev pub quoted : List ℕ → List ℕ
 quoted [] = []
-quoted (b ∷ content) = if b == 39 then 39 ∷ (39 ∷ quoted content) else b ∷ quoted content
+quoted (b ∷ content) = if b == quote then quote ∷ (quote ∷ quoted content) else b ∷ quoted content
 
 abbrev pub is_no_line_end : ℕ → Bool
-is_no_line_end b = not (b == 10)
+is_no_line_end b = not (b == line_feed)
 
 -- a string stands on one line and has at most 80 bytes
 pub record IsContent (content : List ℕ) : Type 0 where
-  pub most : length content ≤ 80
+  pub most : length content ≤ most_string_bytes
   pub one_line : IsTrue (list_all is_no_line_end content)
 
 pub record SpellsRun (d : Dec) (text : List ℕ) : Type 0 where
@@ -51,7 +53,7 @@ pub record SpellsRun (d : Dec) (text : List ℕ) : Type 0 where
 
 pub record SpellsText (content text : List ℕ) : Type 0 where
   pub content_is : IsContent content
-  pub whole : text ≡ 39 ∷ (quoted content ++ 39 ∷ [])
+  pub whole : text ≡ quote ∷ (quoted content ++ quote ∷ [])
 
 -- the text is a spelling of the value
 abbrev pub Spells : Value → List ℕ → Type 0
@@ -60,4 +62,4 @@ Spells (Text content) text = SpellsText content text
 
 -- what may stand directly behind a value: a separator or `)`
 abbrev pub may_follow : ℕ → Bool
-may_follow b = is_separator b || (b == 41)
+may_follow b = is_separator b || (b == close_paren)

@@ -1,8 +1,9 @@
--- The lines of a text file. A line ends at a line feed (LF, 10) or at the end of the file, and one
--- carriage return (CR, 13) at its end is dropped: text files of Unix and of Windows have the same
+-- The lines of a text file. A line ends at a line feed (LF) or at the end of the file, and one
+-- carriage return (CR) at its end is dropped: text files of Unix and of Windows have the same
 -- lines.
 use Rattle.std.specs.Prelude.{ℕ, ◌-◌, List, [], ◌∷◌, map, length, take, slice_index, ◌==◌, ◌&&◌, nat_lt, if◌then◌else◌}
 use Rattle.std.specs.List.{slice_split}
+use Rattle.st_text.specs.Ascii.{line_feed, carriage_return}
 use Rattle.st_text.specs.Bytes.{is_blank, are_blanks}
 
 -- the parts but for the last, where that has no bytes
@@ -13,12 +14,12 @@ without_last_empty (x ∷ y ∷ more) = x ∷ without_last_empty (y ∷ more)
 
 -- what stands before each LF, and the bytes after the last LF, where there are any
 abbrev pub raw_lines : List ℕ → List (List ℕ)
-raw_lines bytes = without_last_empty (slice_split (λ b. b == 10) bytes)
+raw_lines bytes = without_last_empty (slice_split (λ b. b == line_feed) bytes)
 
 -- a line without the CR at its end, where it has one there
 unfoldable pub without_cr : List ℕ → List ℕ
 without_cr line =
-    if nat_lt 0 (length line) && (slice_index line (length line - 1) == 13)
+    if nat_lt 0 (length line) && (slice_index line (length line - 1) == carriage_return)
     then take (length line - 1) line
     else line
 
