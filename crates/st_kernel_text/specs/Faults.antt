@@ -121,7 +121,7 @@ IsOther (first ∷ others) v = same_kind first v ≡ false
 abbrev pub cause_of : ℕ → TextCause
 cause_of b = if b == quote then BadString else (if b == at_sign then BadDate else BadNumber)
 
--- no value may begin with it, and none is announced by it
+-- what may stand before a value, and a `)`: these announce none
 abbrev pub is_before_value : ℕ → Bool
 is_before_value b = is_space b || (b == open_paren) || (b == close_paren)
 
@@ -151,7 +151,8 @@ pub record HasFault (t : Data) (n : ℕ) (cause : TextCause) : Type 0 where
   pub breaks : Breaks row rest n cause
   pub whole : t ≡ before ++ rest
 
--- the data may not end in this row: behind a sign and in a list, whose lines are named
+-- the data may not end in this row: behind a sign and in a list, whose lines are named. Behind a name they
+-- never end, since each data line has its end, which may not follow a name
 abbrev pub IsUnfinished : Row → ℕ → TextCause → Type 0
 IsUnfinished between n cause = ⊥
 IsUnfinished behind_name n cause = ⊥

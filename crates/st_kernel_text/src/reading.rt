@@ -14,11 +14,15 @@ use crate::kernel::{Kernel, read_line};
 use st_text::{split_line, without_cr};
 use std::alloc::Global;
 
-/// Reads a text kernel: the assignments of its data in order, or the first fault and its line.
+/// Reads a text kernel: the assignments of its data in order.
 ///
-/// Lines are counted from 1 over the whole file. In each line its length comes first, then, in data,
-/// its bytes, then its tokens from left to right. That the data end behind a sign or in a list comes
-/// last, with the line of the sign or of the `(`.
+/// Source: NAIF's Kernel Required Reading.
+///
+/// # Errors
+///
+/// The first fault and its line, counted from 1 over the whole file. In each line its length comes first,
+/// then, in data, its bytes, then its tokens from left to right. That the data end behind a sign or in a
+/// list comes last, with the line of the sign or of the `(`. `OutOfMemory` where memory is refused.
 pub fn read_kernel(alloc: Global, bytes: &[u8]) -> Result<AssignmentList, TextFault>
     ensures reads { Reads bytes.now result }
     ensures only { (answer : Result (List Item) Fault) → Reads bytes.now answer → Agree result answer }
@@ -91,6 +95,21 @@ mod tests {
         let added = read_kernel(rt.alloc(), b"\\begindata\nX+=1")?;
         match added.as_slice() {
             [x] => assert!(rt; is_named(x, b"X", Mode::Add) && is_number(&x.values, 1, 0)),
+            _ => assert!(rt; false),
+        }
+        let file = b"KPL\r\n\\begindata\r\nA_NAME_OF_MORE_THAN_16_BYTES_YET= ( 'a string of more than ten bytes', 'b' )\r\n\r\n\\begintext\r\nX = 1\r";
+        let windows = read_kernel(rt.alloc(), file)?;
+        match windows.as_slice() {
+            [x] => {
+                assert!(rt; is_named(x, b"A_NAME_OF_MORE_THAN_16_BYTES_YET", Mode::Set));
+                match x.values.as_slice() {
+                    [Value::Text(a), Value::Text(b)] => {
+                        assert_eq!(rt; a.as_slice(), b"a string of more than ten bytes".as_slice());
+                        assert_eq!(rt; b.as_slice(), b"b".as_slice());
+                    }
+                    _ => assert!(rt; false),
+                }
+            }
             _ => assert!(rt; false),
         }
         assert!(rt; read_kernel(rt.alloc(), b"")?.is_empty());

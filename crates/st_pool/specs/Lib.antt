@@ -1,3 +1,4 @@
+pub mod Limits
 pub mod Loaded
 pub mod PoolMachine
 pub mod Variable

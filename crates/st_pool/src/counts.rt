@@ -1,6 +1,7 @@
 //! Counts of values.
 
 ghost use Rattle.std.specs.Prelude.{◌≡◌, ◌≤◌, ◌<◌, ◌+◌, ◌↔◌, IsNone, IfSome};
+ghost use Rattle.st_pool.specs.Limits.{most_values};
 ghost use Rattle.st_pool.specs.Loaded.{value_count as count_of};
 
 use st_kernel_text::Assignment;
@@ -23,7 +24,7 @@ pub fn room_after(room: usize, assignments: &[Assignment]) -> Option<usize>
 
 /// How many values these assignments have.
 pub fn value_count(assignments: &[Assignment]) -> usize
-    requires { count_of assignments.now ≤ 2000000 }
+    requires { count_of assignments.now ≤ most_values }
     ensures { result ≡ count_of assignments.now }
 {
     let mut count = 0;

@@ -1,6 +1,7 @@
 //! The values of a variable, found by going over all assignments of its name.
 
 ghost use Rattle.std.specs.Prelude.{◌≡◌, ◌≤◌, ◌+◌, length, slice_get, option_copied};
+ghost use Rattle.st_pool.specs.Limits.{most_values};
 ghost use Rattle.st_pool.specs.Loaded.{value_count, loaded_count};
 ghost use Rattle.st_pool.specs.Variable.{loaded_values};
 ghost use Rattle.st_pool.specs.PoolMachine as machine;
@@ -19,7 +20,7 @@ pub struct Found<'a> {
 
 /// How many values the variable of this name has, and its value at place i.
 pub fn find<'a>(kernels: &'a [Kernel], name: &[u8], i: usize) -> Found<'a>
-    requires { loaded_count kernels.now ≤ 2000000 }
+    requires { loaded_count kernels.now ≤ most_values }
     ensures count { result.count ≡ length (loaded_values name.now kernels.now) }
     ensures value { option_copied result.value ≡ slice_get (loaded_values name.now kernels.now) i }
 {
@@ -35,7 +36,7 @@ pub fn find<'a>(kernels: &'a [Kernel], name: &[u8], i: usize) -> Found<'a>
 
 /// What is found after some more assignments.
 fn find_in<'a>(before: Found<'a>, assignments: &'a [Assignment], name: &[u8], i: usize) -> Found<'a>
-    requires { before.count + value_count assignments.now ≤ 2000000 }
+    requires { before.count + value_count assignments.now ≤ most_values }
     ensures found { (result.count, option_copied result.value) ≡ machine.found_in name.now i (before.entry.count, option_copied before.entry.value) assignments.now }
     ensures most { result.count ≤ before.entry.count + value_count assignments.now }
 {
@@ -48,7 +49,7 @@ fn find_in<'a>(before: Found<'a>, assignments: &'a [Assignment], name: &[u8], i:
 
 /// What is found after one more assignment.
 fn find_next<'a>(before: Found<'a>, assignment: &'a Assignment, name: &[u8], i: usize) -> Found<'a>
-    requires { before.count + length assignment.now.values ≤ 2000000 }
+    requires { before.count + length assignment.now.values ≤ most_values }
     ensures found { (result.count, option_copied result.value) ≡ machine.found_after name.now i (before.entry.count, option_copied before.entry.value) assignment.now }
     ensures most { result.count ≤ before.entry.count + length assignment.now.values }
 {

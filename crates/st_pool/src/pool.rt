@@ -1,6 +1,7 @@
 //! The loaded kernels.
 
 ghost use Rattle.std.specs.Prelude.{◌≡◌, ◌≤◌, ◌<◌, ◌+◌, ◌↔◌, [], ◌∷◌, ◌++◌, Ok, Err, length, slice_get, IsNone, IfSome, IsErr, Some, true, false, OnOk, OnErr, option_copied};
+ghost use Rattle.st_pool.specs.Limits.{most_kernels, most_values};
 ghost use Rattle.st_pool.specs.Loaded.{value_count, loaded_count, is_loaded, without_last};
 ghost use Rattle.st_pool.specs.Variable.{loaded_values, loaded_kind};
 ghost use Rattle.st_pool.specs.declared.fault.LoadFault.TheVariants.{TooManyKernels, TooManyValues};
@@ -18,7 +19,7 @@ use std::alloc::Global;
 use std::marker::Model;
 
 /// The most kernels that may be loaded at a time.
-const MAX_KERNELS: usize = 1000;
+const MAX_KERNELS: usize = 1_000;
 
 /// The most values that the loaded kernels may have together.
 const MAX_VALUES: usize = 2_000_000;
@@ -36,13 +37,14 @@ pub struct Pool {
 impl Model for Pool {
     ghost use Rattle.std.specs.Prelude.{List, ◌≡◌, ◌+◌};
     ghost use Rattle.st_pool.specs.declared.kernel.Kernel.{Kernel as Item};
+    ghost use Rattle.st_pool.specs.Limits.{most_values};
     ghost use Rattle.st_pool.specs.Loaded.{loaded_count};
 
     ghost Value = { List Item };
 
     ghost view = { λ p. p.kernels.items };
 
-    ghost invariant = { λ p. loaded_count p.kernels.items + p.room ≡ 2000000 };
+    ghost invariant = { λ p. loaded_count p.kernels.items + p.room ≡ most_values };
 }
 
 impl Pool {
@@ -64,8 +66,8 @@ impl Pool {
     pub fn load(&mut self, name: &[u8], assignments: AssignmentList) -> Result<(), LoadFault>
         ensures loaded { OnOk result (self.new ≡ self.old ++ record { name = name.now; assignments = assignments } ∷ []) }
         ensures refused { OnErr result (self.new ≡ self.old) }
-        ensures too_many_kernels { result ≡ Err TooManyKernels ↔ 1000 ≤ length self.old }
-        ensures too_many_values { result ≡ Err TooManyValues ↔ ((length self.old < 1000) × (2000000 < loaded_count self.old + value_count assignments)) }
+        ensures too_many_kernels { result ≡ Err TooManyKernels ↔ most_kernels ≤ length self.old }
+        ensures too_many_values { result ≡ Err TooManyValues ↔ ((length self.old < most_kernels) × (most_values < loaded_count self.old + value_count assignments)) }
     {
         if self.kernels.len() >= MAX_KERNELS {
             return Err(LoadFault::TooManyKernels);
