@@ -1,6 +1,7 @@
 -- The dates of a text kernel: what stands after the `@`. Source: Kernel Required Reading, which
--- takes dates by the forms of Time Required Reading; those that are taken are in DayText and TimeText.
--- Its value is the formal count of seconds past 2000-01-01 12:00:00, every day having 86,400 s.
+-- takes dates by the forms of Time Required Reading; those that are taken are in DayText and
+-- TimeText. Its value is the formal count of seconds past 2000-01-01 12:00:00, every day having
+-- 86,400 s.
 use Rattle.std.specs.Prelude.{◌≡◌, ℕ, List, ◌++◌, ℤ, pos, Result, Ok, Err}
 use Rattle.st_dates.specs.DayText.{DayText, day_spelling, AreDayParts, IsDayOf}
 use Rattle.st_dates.specs.Label.{formal}

@@ -1,4 +1,5 @@
--- How a date after an `@` is read: its day, the time behind it, and then the calendar and the range.
+-- How a date after an `@` is read: its day, the time behind it, and then the calendar and the
+-- range.
 use Rattle.std.specs.Prelude.{ℕ, Bool, ◌&&◌, List, ℤ, int_le, Option, Some, None, Result, Ok, Err, if◌then◌else◌}
 use Rattle.st_dates.specs.AtDate.{moment}
 use Rattle.st_dates.specs.DayTextMachine.{day_of_text, number_in}

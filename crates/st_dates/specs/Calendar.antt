@@ -1,6 +1,6 @@
--- The Gregorian calendar, by the lengths of its years and months. Source: the calendar as decreed in
--- 1582, carried back before that year. Days are counted from 2000-01-01, the day of the epoch J2000 of
--- NAIF's Time Required Reading.
+-- The Gregorian calendar, by the lengths of its years and months. Source: the calendar as decreed
+-- in 1582, carried back before that year. Days are counted from 2000-01-01, the day of the epoch
+-- J2000 of NAIF's Time Required Reading.
 use Rattle.std.specs.Prelude.{ℕ, zero, suc, ◌+◌, ◌-◌, ◌%◌, ◌≤◌, Bool, not, ◌&&◌, ◌||◌, ◌==◌, if◌then◌else◌, ℤ, pos, ◌+ℤ◌, ◌-ℤ◌}
 
 -- every fourth year is a leap year, but of the centuries only every fourth

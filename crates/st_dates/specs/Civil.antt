@@ -1,5 +1,5 @@
--- The parts of a day: its date, the place in its year and its weekday. Sources: the Gregorian calendar;
--- 2000-01-01 was a Saturday.
+-- The parts of a day: its date, the place in its year and its weekday. Sources: the Gregorian
+-- calendar; 2000-01-01 was a Saturday.
 use Rattle.std.specs.Prelude.{◌≡◌, ℕ, ◌+◌, ◌-◌, ℤ, pos, ◌+ℤ◌, ◌≤ℤ◌, unsigned_abs}
 use Rattle.std.specs.Int.{int_rem_euclid}
 use Rattle.st_dates.specs.Calendar.{IsCalendarDay, day_number, days_of_months}

@@ -1,5 +1,5 @@
--- The day of a date as it is written. Source: Time Required Reading, of whose forms four are taken: a
--- year of four digits with a month's number, its name, or the place of the day in its year.
+-- The day of a date as it is written. Source: Time Required Reading, of whose forms four are taken:
+-- a year of four digits with a month's number, its name, or the place of the day in its year.
 use Rattle.std.specs.Prelude.{◌≡◌, ℕ, false, List, [], ◌∷◌, ◌++◌, ℤ}
 use Rattle.std.specs.Char.{is_ascii_digit}
 use Rattle.st_text.specs.Ascii.{dash}

@@ -12,4 +12,5 @@ units_of_decimals digits = number_of digits * 10 ^ (18 - length digits)
 -- no text, which stands for no units, or a point and 1 to 12 decimals
 abbrev pub SpellsDecimals : List ℕ → ℕ → Type 0
 SpellsDecimals [] units = units ≡ 0
-SpellsDecimals (b ∷ digits) units = (b ≡ point) × IsDigitRun 1 12 digits × (units ≡ units_of_decimals digits)
+SpellsDecimals (b ∷ digits) units =
+    (b ≡ point) × IsDigitRun 1 12 digits × (units ≡ units_of_decimals digits)

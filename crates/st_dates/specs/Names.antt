@@ -1,5 +1,5 @@
--- The names of months and weekdays. Source for the names that are read: Time Required Reading, where a
--- month is spelled out or shortened to its first three letters, in any letter case.
+-- The names of months and weekdays. Source for the names that are read: Time Required Reading,
+-- where a month is spelled out or shortened to its first three letters, in any letter case.
 use Rattle.std.specs.Prelude.{◌≡◌, ℕ, ◌-◌, ◌≤◌, ◌⊎◌, List, [], ◌∷◌, map, take, slice_index_or, codes}
 use Rattle.std.specs.Char.{to_ascii_lowercase}
 

@@ -1,5 +1,5 @@
--- The range of times: from 1900-01-01 00:00 to 2100-01-01 00:00, as formal counts in units of 10^-18 s
--- past 2000-01-01 12:00:00. The bounds are a choice of this project.
+-- The range of times: from 1900-01-01 00:00 to 2100-01-01 00:00, as formal counts in units of
+-- 10^-18 s past 2000-01-01 12:00:00. The bounds are a choice of this project.
 use Rattle.std.specs.Prelude.{ℤ, pos, neg_ℤ, ◌≤ℤ◌}
 use Rattle.st_dates.specs.Label.{formal}
 use Rattle.st_dates.specs.declared.label.Label.{Label}

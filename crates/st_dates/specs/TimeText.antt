@@ -1,5 +1,6 @@
--- The time of day as it is written behind a day. Source: Time Required Reading, for hours,
--- minutes and seconds with colons between them; which marks may stand before them is a choice of this project.
+-- The time of day as it is written behind a day. Source: Time Required Reading, for hours, minutes
+-- and seconds with colons between them; which marks may stand before them is a choice of this
+-- project.
 use Rattle.std.specs.Prelude.{◌≡◌, ℕ, ◌+◌, ◌*◌, ◌^◌, ◌≤◌, ◌⊎◌, List, [], ◌∷◌, ◌++◌, codes}
 use Rattle.st_text.specs.Ascii.{point, colon}
 use Rattle.st_text.specs.Bytes.{number_of}

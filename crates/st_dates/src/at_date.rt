@@ -11,13 +11,20 @@ use crate::day_text::read_day;
 use crate::label::{is_ranged, midnight_of};
 use crate::time_text::read_time;
 
-/// The instant of a date of a text kernel, whose text stands after an `@`: its formal count, in units
-/// of 10^-18 s past 2000-01-01 12:00:00.
+/// The instant of a date of a text kernel, whose text stands after an `@`: its formal count, in
+/// units of 10^-18 s past 2000-01-01 12:00:00.
 ///
-/// The day is one of `YYYY-MM-DD`, `YYYY-MON-D`, `D-MON-YYYY` and `YYYY-DOY`: a year of four digits, a
-/// place in the year of three, a month and a day of one or two, and a month's name or its first three
-/// letters in any letter case. A time may follow one of `/`, `//`, `T`, `t` and `-`: it is `H:MM`,
-/// `H:MM:SS` or `H:MM:SS.f`, with 1 to 12 decimals.
+/// The day is one of `YYYY-MM-DD`, `YYYY-MON-D`, `D-MON-YYYY` and `YYYY-DOY`: a year of four
+/// digits, a place in the year of three, a month and a day of one or two, and a month's name or its
+/// first three letters in any letter case. A time may follow one of `/`, `//`, `T`, `t` and `-`: it
+/// is `H:MM`, `H:MM:SS` or `H:MM:SS.f`, with 1 to 12 decimals.
+///
+/// Source: NAIF's Kernel Required Reading, which takes dates by the forms of Time Required Reading;
+/// which of these are taken is this project's own.
+///
+/// # Errors
+///
+/// The first of `DateFault`'s variants whose condition holds.
 pub fn read_at_date(text: &[u8]) -> Result<i128, DateFault>
     ensures reads { ReadsAtDate text.now result }
     ensures only { (answer : Result ℤ Fault) → ReadsAtDate text.now answer → result ≡ answer }
@@ -26,6 +33,7 @@ pub fn read_at_date(text: &[u8]) -> Result<i128, DateFault>
     read(text)
 }
 
+/// The same by steps, which the public call's clauses are proved from.
 #[tactic(auto, unfolding(crate::specs::AtDateMachine::at_date_of, crate::specs::AtDateMachine::parts_of))]
 fn read(text: &[u8]) -> Result<i128, DateFault>
     ensures { result ≡ at_date_of text.now }
@@ -50,6 +58,7 @@ fn moment_of(day: i32, units: u128) -> i128
     midnight_of(day) + units as i128
 }
 
+/// The instant, where it is in the range of times.
 fn ranged(instant: i128) -> Result<i128, DateFault>
     ensures { result ≡ machine.ranged instant }
 {

@@ -10,8 +10,8 @@ use jiff_core::civil::Date;
 /// The day of `jiff_core`'s first date, -9999-01-01, counted back from 1970-01-01.
 const FIRST_DATE: i32 = 4_371_587;
 
-/// A day by its parts. The weekday is from 0 for Sunday to 6 for Saturday, and `doy` is the place in
-/// the year, from 1 for 1 January.
+/// A day by its parts. The weekday is from 0 for Sunday to 6 for Saturday, and `doy` is the place
+/// in the year, from 1 for 1 January.
 #[derive(Clone, Copy, Debug, PartialEq, Eq, Hash)]
 pub struct Civil {
     pub year: i32,
@@ -23,6 +23,8 @@ pub struct Civil {
 
 /// The date, the place in its year and the weekday of a day that is counted from 2000-01-01.
 ///
+/// Source: the Gregorian calendar.
+///
 /// The day is at most 73,200 in magnitude, about two hundred years to both sides.
 pub fn civil_of(day: i32) -> Civil
     requires from { neg_ℤ (pos 73_200) ≤ℤ day }
@@ -33,6 +35,7 @@ pub fn civil_of(day: i32) -> Civil
     parts_of(day)
 }
 
+/// The same by steps, which the public call's clauses are proved from.
 fn parts_of(day: i32) -> Civil
     requires from { neg_ℤ (pos 73_200) ≤ℤ day }
     requires to { day ≤ℤ pos 73_200 }

@@ -1,3 +1,5 @@
+//! The day numbers of dates.
+
 ghost use Rattle.std.specs.Prelude.{◌≡◌, ◌≤◌, ◌↔◌, pos, ◌≤ℤ◌, unsigned_abs, IsSome, IfSome};
 ghost use Rattle.st_dates.specs.Calendar.{day_number, number_in_year, IsCalendarDay, IsDayOfYear};
 ghost use Rattle.st_dates.specs.CalendarMachine.{calendar_day, day_in_year};

@@ -6,8 +6,8 @@ ghost use Rattle.st_dates.specs.TimeTextMachine.{decimal_units};
 
 use st_text::{is_digit_run, read_digits};
 
-/// The decimals of a second in units of 10^-18 s: a point and 1 to 12 digits, or an empty text, which
-/// stands for 0. None where the text is neither.
+/// The decimals of a second in units of 10^-18 s: a point and 1 to 12 digits, or an empty text,
+/// which stands for 0. None where the text is neither.
 pub fn read_decimals(text: &[u8]) -> Option<u64>
     ensures reads { IfSome result (SpellsDecimals text.now) }
     ensures only { (units : ℕ) → SpellsDecimals text.now units → result ≡ Some units }

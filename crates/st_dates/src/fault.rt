@@ -1,3 +1,5 @@
+//! Why a text is no date.
+
 use thiserror::Error;
 
 /// Why a text is no date, in the order in which the reasons are tested.

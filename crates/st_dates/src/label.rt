@@ -28,6 +28,8 @@ pub struct Label {
 
 /// The formal count of a label, in units past J2000: every day counts 86,400 s, whatever it had.
 ///
+/// Source: NAIF's Time Required Reading, on formal seconds past J2000.
+///
 /// The count is at most 6,311,600,000 s in magnitude.
 pub fn formal_of(label: Label) -> i128
     requires { IsFormal (formal label) }

@@ -1,9 +1,13 @@
+//! The names of months and weekdays.
+
 ghost use Rattle.std.specs.Prelude.{◌≡◌, ℕ, ◌≤◌, ◌<◌, IfSome, Some, length};
 ghost use Rattle.st_dates.specs.Names.{NamesMonth, name_of_month, name_of_weekday, lowered};
 ghost use Rattle.st_dates.specs.NamesMachine.{is_name, month_named};
 
 /// The month, from 1 to 12, that a text names by its full name or by the first three letters of it,
 /// in any letter case; `None` where the text names no month.
+///
+/// Source: NAIF's Time Required Reading.
 pub fn month_of(name: &[u8]) -> Option<u8>
     ensures value { IfSome result (NamesMonth name.now) }
     ensures only { (m : ℕ) → NamesMonth name.now m → result ≡ Some m }

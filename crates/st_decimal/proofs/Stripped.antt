@@ -1,10 +1,13 @@
 -- The decimal of a count of units is what is left of it without the zeros at its end.
 use Rattle.std.proofs.Common.{inl, inr, ◌≡◌, ◌≢◌, ℕ, ◌+◌, ◌-◌, ◌*◌, ◌/◌, ◌%◌, ◌^◌, ◌<◌, zero, suc, true, false, Bool, refl, ap, sym, ◌∙◌, subst, arith}
-use Rattle.std.specs.Prelude.{◌==◌, ℤ, pos, negsuc, ◌+ℤ◌, unsigned_abs}
+use Rattle.std.specs.Prelude.{◌==◌, ℤ, pos, negsuc, neg_ℤ, ◌+ℤ◌, ◌*ℤ◌, unsigned_abs}
+use Rattle.std.proofs.Math.IntN.{pos-*ℤ-pos, negsuc-*ℤ-pos}
 use Rattle.std.proofs.Math.Nat.{pow-suc, mul_assoc}
 use Rattle.std.proofs.lemmas.Bool.{cases_Bool, cond-true, cond-false, eqb-true, eqb-false}
+use Rattle.std.proofs.lemmas.Int.{ints}
 use Rattle.st_decimal.specs.declared.number.Dec.{Dec}
 use Rattle.st_decimal.specs.Value.{IsScaled, IsOfUnits18, is_negative, signed}
+use Rattle.st_decimal.specs.Scaling.{IsTimesTen}
 use Rattle.st_decimal.specs.ScalingMachine.{strip_of, dec_of_units18}
 
 pub strip_more : (z n : ℕ) → z < 38 → (n % 10 == 0) ≡ true → strip_of (38 - z) n z ≡ strip_of (38 - (z + 1)) (n / 10) (z + 1)
@@ -78,3 +81,25 @@ of_units_is z r =
           let some : 0 < unsigned_abs z = omega (arith, eqb-false _ _ n) in
           subst P (sym (cond-false _ _ _ n)) (scaled (is_negative z) (unsigned_abs z) some (strip_law 38 (unsigned_abs z) 0 some r))
     ]
+
+-- such a decimal has that many units
+tens_up : (k : ℕ) → ((negsuc 17 +ℤ pos k) +ℤ pos 18) ≡ pos k
+tens_up k = omega (arith, ints)
+
+times : (u digits tens : ℤ) (k : ℕ) → tens ≡ pos k → u ≡ (digits *ℤ pos (10 ^ k)) → IsTimesTen digits tens u
+times u digits tens k e h = subst (λ (z : ℤ). IsTimesTen digits z u) (sym e) h
+
+negative_times : (n m k : ℕ) (d : Dec) → suc n ≡ m * 10 ^ k → d.digits ≡ signed true m → negsuc n ≡ (d.digits *ℤ pos (10 ^ k))
+negative_times n zero k d is p = absurd (omega (arith, is))
+negative_times n (suc m) k d is p =
+    ap (λ (x : ℕ). neg_ℤ (pos x)) is ∙ sym (negsuc-*ℤ-pos m (10 ^ k)) ∙ ap (λ (z : ℤ). z *ℤ pos (10 ^ k)) (sym p)
+
+pub counted : (z : ℤ) (d : Dec) → IsOfUnits18 z d → IsTimesTen d.digits (d.tens +ℤ pos 18) z
+counted (pos zero) d (p, q) =
+    times (pos 0) d.digits (d.tens +ℤ pos 18) 18 (ap (λ (t : ℤ). t +ℤ pos 18) q)
+    (sym (ap (λ (z : ℤ). z *ℤ pos (10 ^ 18)) p ∙ pos-*ℤ-pos 0 (10 ^ 18)))
+counted (pos (suc n)) d (m, k, is, last, p, q) =
+    times (pos (suc n)) d.digits (d.tens +ℤ pos 18) k (ap (λ (t : ℤ). t +ℤ pos 18) q ∙ tens_up k)
+    (ap (λ (x : ℕ). pos x) is ∙ sym (pos-*ℤ-pos m (10 ^ k)) ∙ ap (λ (z : ℤ). z *ℤ pos (10 ^ k)) (sym p))
+counted (negsuc n) d (m, k, is, last, p, q) =
+    times (negsuc n) d.digits (d.tens +ℤ pos 18) k (ap (λ (t : ℤ). t +ℤ pos 18) q ∙ tens_up k) (negative_times n m k d is p)

@@ -15,4 +15,6 @@ decimals places n = if places == 0 then [] else point ∷ padded places n
 -- n / 10^places, with exactly `places` decimals
 abbrev pub fixed : ℤ → ℕ → List ℕ
 fixed n places =
-    sign n ++ decimal_digits (unsigned_abs n / 10 ^ places) ++ decimals places (unsigned_abs n % 10 ^ places)
+    sign n
+    ++ decimal_digits (unsigned_abs n / 10 ^ places)
+    ++ decimals places (unsigned_abs n % 10 ^ places)

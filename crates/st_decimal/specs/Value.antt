@@ -62,7 +62,8 @@ exponent_size (Some e) = number_of e.digits
 abbrev pub IsScaled : Bool → ℕ → ℤ → Dec → Type 0
 IsScaled minus zero tens d = (d.digits ≡ pos 0) × (d.tens ≡ pos 0)
 IsScaled minus (suc n) tens d =
-    (m k : ℕ) × (suc n ≡ m * 10 ^ k) × (m % 10 ≢ 0) × (d.digits ≡ signed minus m) × (d.tens ≡ (tens +ℤ pos k))
+    (m k : ℕ) × (suc n ≡ m * 10 ^ k) × (m % 10 ≢ 0)
+    × (d.digits ≡ signed minus m) × (d.tens ≡ (tens +ℤ pos k))
 
 -- the decimal of a count of units of 10^-18
 abbrev pub IsOfUnits18 : ℤ → Dec → Type 0
@@ -71,14 +72,18 @@ IsOfUnits18 units d = IsScaled (is_negative units) (unsigned_abs units) (negsuc 
 -- the digits without the point, times ten to the exponent less the count of decimals
 abbrev pub IsValue : Parts → Dec → Type 0
 IsValue p d =
-    IsScaled (is_minus p.sign) (number_of (digits_of p)) (exponent_of p.exponent -ℤ pos (length (decimals_of p.decimals))) d
+    IsScaled (is_minus p.sign) (number_of (digits_of p))
+    (exponent_of p.exponent -ℤ pos (length (decimals_of p.decimals))) d
 
 -- what the reader answers to a text. The limits are this project's own
 abbrev pub ReadsDec : List ℕ → Result Dec DecFault → Type 0
 ReadsDec text (Ok d) =
-    (p : Parts) × AreParts p × (text ≡ spelling p) × (significant (digits_of p) ≤ most_digits) × (exponent_size p.exponent ≤ most_exponent) × IsValue p d
+    (p : Parts) × AreParts p × (text ≡ spelling p) × (significant (digits_of p) ≤ most_digits)
+    × (exponent_size p.exponent ≤ most_exponent) × IsValue p d
 ReadsDec text (Err Empty) = text ≡ []
 ReadsDec text (Err (BadByte k)) = (0 < length text) × StopsAt text k
-ReadsDec text (Err TooManyDigits) = (p : Parts) × AreParts p × (text ≡ spelling p) × (most_digits < significant (digits_of p))
+ReadsDec text (Err TooManyDigits) =
+    (p : Parts) × AreParts p × (text ≡ spelling p) × (most_digits < significant (digits_of p))
 ReadsDec text (Err BadExponent) =
-    (p : Parts) × AreParts p × (text ≡ spelling p) × (significant (digits_of p) ≤ most_digits) × (most_exponent < exponent_size p.exponent)
+    (p : Parts) × AreParts p × (text ≡ spelling p) × (significant (digits_of p) ≤ most_digits)
+    × (most_exponent < exponent_size p.exponent)

@@ -14,8 +14,11 @@ const ROOM: usize = 80;
 
 /// Appends `n / 10^places` with exactly `places` decimals, and no point for 0 places.
 ///
-/// A negative number has a `-` before it, which zero never has. Where memory is refused nothing is
-/// appended.
+/// A negative number has a `-` before it, which zero never has.
+///
+/// # Errors
+///
+/// `OutOfMemory`; nothing is appended then.
 pub fn put_fixed(out: &mut Vec<u8>, n: i128, places: u32) -> Result<(), OutOfMemory>
     requires { places ≤ MOST_PLACES }
     ensures ok { OnOk result (out.new.items ≡ out.old.items ++ fixed n places) }

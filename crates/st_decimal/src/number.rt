@@ -6,8 +6,8 @@ use thiserror::Error;
 
 /// An exact decimal, `digits * 10^tens`.
 ///
-/// What `read_dec` gives has digits that are no multiple of ten, and zero as `Dec { 0, 0 }`. Two are
-/// equal where both their numbers are: `Dec { 10, 0 }` and `Dec { 1, 1 }` are not.
+/// What `read_dec` gives has digits that are no multiple of ten, and zero as `Dec { 0, 0 }`. Two
+/// are equal where both their numbers are: `Dec { 10, 0 }` and `Dec { 1, 1 }` are not.
 #[derive(Clone, Copy, Debug, PartialEq, Eq)]
 pub struct Dec {
     pub digits: i128,
@@ -32,11 +32,12 @@ impl Dec {
         times_ten(self.digits, i64::from(self.tens) + 18)
     }
 
-    /// The decimal of a count of units of 10^-18, of a magnitude below 10^38: what `units18` gives is
-    /// turned back. Its digits are no multiple of ten, and zero is `Dec { 0, 0 }`.
+    /// The decimal of a count of units of 10^-18, of a magnitude below 10^38: what `units18` gives
+    /// is turned back. Its digits are no multiple of ten, and zero is `Dec { 0, 0 }`.
     pub fn from_units18(units: i128) -> Dec
         requires { unsigned_abs units < units_bound }
         ensures value { IsOfUnits18 units result }
+        ensures units { IsUnits18 result units }
         ensures only { (d : Decimal) → IsOfUnits18 units d → result ≡ d }
         ensures exact { result ≡ dec_of_units18 units }
     {

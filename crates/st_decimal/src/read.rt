@@ -30,6 +30,7 @@ pub fn read_dec(text: &[u8]) -> Result<Dec, DecFault>
     read(text)
 }
 
+/// The same by steps, which the public call's clauses are proved from.
 #[tactic(auto, unfolding(crate::specs::NumberMachine::dec_of))]
 fn read(text: &[u8]) -> Result<Dec, DecFault>
     requires { length text.now ≤ most_number_bytes }

@@ -144,7 +144,7 @@ token_is bytes front more f w good h = record {
   more = more;
   good = good;
   fault = plain_fault (data_of_lines front) f.line f.cause (data_lines false 1 front)
-  (subst (λ (z : Data). HasFault z f.line f.cause) (append-nil (data_of_lines front)) (broke_all [] (data_of_lines front) f h []));
+      (subst (λ (z : Data). HasFault z f.line f.cause) (append-nil (data_of_lines front)) (broke_all [] (data_of_lines front) f h []));
   whole = w;
 }
 

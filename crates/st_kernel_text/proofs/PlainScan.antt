@@ -36,17 +36,20 @@ closed_text done seen x written q = plain-append seen (x ∷ []) ∙ ap (λ (z :
 end_here : (opened : ℕ) (done : List ℕ) (seen : Data) (x c : ℕ × ℕ) (u : Data) → IsContent done → plain seen ≡ quoted done → x.1 ≡ 39
     → ((c.1 ≡ 39) × (length done ≡ 80)) ⊎ (((c.1 == 39) ≡ false) × (may_follow c.1 ≡ false)) → Scanned opened (seen ++ x ∷ (c ∷ u))
 end_here opened done seen x c u is written q breaks =
-    inr (c.0, inr (record {
-      opened = opened;
-      content = done;
-      text = seen ++ x ∷ [];
-      byte = c.1;
-      more = u;
-      content_is = is;
-      written = closed_text done seen x written q;
-      breaks = breaks;
-      whole = ap (λ (z : Data). (opened, 39) ∷ z) (sym (append_assoc seen (x ∷ []) (c ∷ u)));
-    }))
+    inr (
+      c.0,
+      inr (record {
+        opened = opened;
+        content = done;
+        text = seen ++ x ∷ [];
+        byte = c.1;
+        more = u;
+        content_is = is;
+        written = closed_text done seen x written q;
+        breaks = breaks;
+        whole = ap (λ (z : Data). (opened, 39) ∷ z) (sym (append_assoc seen (x ∷ []) (c ∷ u)));
+      }),
+    )
 
 value_here : (opened : ℕ) (done : List ℕ) (seen : Data) (x c : ℕ × ℕ) (u : Data) → IsContent done → plain seen ≡ quoted done → x.1 ≡ 39
     → may_follow c.1 ≡ true → Scanned opened (seen ++ x ∷ (c ∷ u))
@@ -112,7 +115,7 @@ scan opened x (c ∷ []) done seen l is written =
 scan opened x (c ∷ d ∷ u) done seen l is written =
     elim (cases_Bool (x.1 == 39)) [
       | inl y ↦ quote_then opened done seen x c (d ∷ u) is written (eqb-true _ _ y)
-      (λ q k. scan opened d u (done ++ 39 ∷ []) ((seen ++ x ∷ []) ++ c ∷ []) l.1.1 k (two_written done seen x c written (eqb-true _ _ y) q))
+          (λ q k. scan opened d u (done ++ 39 ∷ []) ((seen ++ x ∷ []) ++ c ∷ []) l.1.1 k (two_written done seen x c written (eqb-true _ _ y) q))
       | inr n ↦ plain_byte opened done seen x (c ∷ d ∷ u) is written n (λ e k. scan opened c (d ∷ u) (done ++ x.1 ∷ []) (seen ++ x ∷ []) l.1 k (byte_written done seen x written n))
     ]
 

@@ -225,9 +225,9 @@ plain_open t n cause l c h =
     subst (λ (z : Data). NoValueHere z n cause) (sym h.whole)
     (text_at h.opened n h.byte cause h.text h.more (subst InLines h.whole l) (ap (list_all is_no_line_end) written ∙ quoted_no_end h.content h.content_is.one_line) c
     (no_text_value h.opened (h.text ++ (n, h.byte) ∷ h.more) (λ other rest o e w.
-        open_unlike h.content other (plain h.more) (plain rest) h.byte h.breaks o
-        (align h.content other (h.byte ∷ plain h.more) (plain rest) (follows_plain rest e)
-        (sym (plain-append h.text ((n, h.byte) ∷ h.more) ∙ ap (λ (z : List ℕ). z ++ (h.byte ∷ plain h.more)) written) ∙ w)))))
+    open_unlike h.content other (plain h.more) (plain rest) h.byte h.breaks o
+    (align h.content other (h.byte ∷ plain h.more) (plain rest) (follows_plain rest e)
+    (sym (plain-append h.text ((n, h.byte) ∷ h.more) ∙ ap (λ (z : List ℕ). z ++ (h.byte ∷ plain h.more)) written) ∙ w)))))
 
 plain_end : (t : Data) (n : ℕ) (cause : TextCause) → InLines t → cause ≡ BadString → HasBadEnd t n → NoValueHere t n cause
 plain_end t n cause l c h =
@@ -236,9 +236,9 @@ plain_end t n cause l c h =
     (text_at h.opened n h.byte cause h.text h.more (subst InLines h.whole l)
     (ap (list_all is_no_line_end) written ∙ list_all-append is_no_line_end (quoted h.content) (39 ∷ []) ∙ and_from _ _ (quoted_no_end h.content h.content_is.one_line) refl) c
     (no_text_value h.opened (h.text ++ (n, h.byte) ∷ h.more) (λ other rest o e w.
-        end_unlike h.content other (plain h.more) (plain rest) h.byte h.breaks o (follows_plain rest e)
-        (align h.content other (39 ∷ (h.byte ∷ plain h.more)) (plain rest) (follows_plain rest e)
-        (sym (plain-append h.text ((n, h.byte) ∷ h.more) ∙ ap (λ (z : List ℕ). z ++ (h.byte ∷ plain h.more)) written ∙ append_assoc (quoted h.content) (39 ∷ []) (h.byte ∷ plain h.more)) ∙ w)))))
+    end_unlike h.content other (plain h.more) (plain rest) h.byte h.breaks o (follows_plain rest e)
+    (align h.content other (39 ∷ (h.byte ∷ plain h.more)) (plain rest) (follows_plain rest e)
+    (sym (plain-append h.text ((n, h.byte) ∷ h.more) ∙ ap (λ (z : List ℕ). z ++ (h.byte ∷ plain h.more)) written ∙ append_assoc (quoted h.content) (39 ∷ []) (h.byte ∷ plain h.more)) ∙ w)))))
 
 pub plain_value : (t : Data) (n : ℕ) (cause : TextCause) → InLines t → HasBadValue t n cause → NoValueHere t n cause
 plain_value t n cause l (inl (begins, h)) = plain_run t n cause l begins h

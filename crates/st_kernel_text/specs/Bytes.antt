@@ -1,5 +1,5 @@
--- The bytes of a kernel, after NAIF's Kernel Required Reading. In data
--- only the tab and the printable bytes of ASCII may stand; a line feed stands for the end of a line.
+-- The bytes of a kernel, after NAIF's Kernel Required Reading. In data only the tab and the
+-- printable bytes of ASCII may stand; a line feed stands for the end of a line.
 use Rattle.std.specs.Prelude.{ℕ, Bool, not, ◌==◌, ◌&&◌, ◌||◌, nat_le}
 use Rattle.st_text.specs.Ascii.{tab, line_feed, quote, open_paren, close_paren, comma, equals_sign}
 use Rattle.st_text.specs.Bytes.{is_blank}

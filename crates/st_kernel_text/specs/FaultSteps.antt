@@ -1,6 +1,6 @@
--- The first token that cannot go on, by the byte at which the reader finds it: private clauses and proofs
--- cite it. `Faults` says the same by what may stand. A token and the byte directly behind it stand on one
--- line, since the end of a line counts to the line that it ends.
+-- The first token that cannot go on, by the byte at which the reader finds it: private clauses and
+-- proofs cite it. `Faults` says the same by what may stand. A token and the byte directly behind it
+-- stand on one line, since the end of a line counts to the line that it ends.
 use Rattle.std.specs.Prelude.{◌≡◌, ℕ, Bool, false, List, [], ◌∷◌, ◌++◌, length, ◌==◌, ◌||◌, IsTrue, ◌⊎◌}
 use Rattle.st_text.specs.Bytes.{is_blank}
 use Rattle.st_decimal.specs.declared.number.Dec.{Dec}
@@ -71,7 +71,8 @@ pub record HasOpenText (t : Data) (n : ℕ) : Type 0 where
   pub breaks : (byte ≡ 10) ⊎ ((length content ≡ 80) × ((byte == 39) ≡ false))
   pub whole : t ≡ (opened, 39) ∷ (text ++ ((n, byte) ∷ more))
 
--- a string that is followed by something else than a separator or `)`, or has a quote as its 81st byte
+-- a string that is followed by something else than a separator or `)`, or has a quote as its 81st
+-- byte
 pub record HasBadEnd (t : Data) (n : ℕ) : Type 0 where
   pub opened : ℕ
   pub content : List ℕ

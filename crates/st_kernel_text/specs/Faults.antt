@@ -1,6 +1,7 @@
--- The first token that may not stand where it does: all before it is spelled as it should be, and what
--- should stand here doesn't. No token goes over the end of a line, so the line of a fault is that of the
--- token's first byte. Source for what may stand: NAIF's Kernel Required Reading, by `Grammar`.
+-- The first token that may not stand where it does: all before it is spelled as it should be, and
+-- what should stand here doesn't. No token goes over the end of a line, so the line of a fault is
+-- that of the token's first byte. Source for what may stand: NAIF's Kernel Required Reading, by
+-- `Grammar`.
 use Rattle.std.specs.Prelude.{◌≡◌, ℕ, Bool, false, List, [], ◌∷◌, ◌++◌, ◌==◌, ◌||◌, ⊤, ◌⊎◌, if◌then◌else◌}
 use Rattle.st_text.specs.Ascii.{quote, open_paren, close_paren, at_sign}
 use Rattle.st_text.specs.Bytes.{is_blank}
@@ -151,8 +152,8 @@ pub record HasFault (t : Data) (n : ℕ) (cause : TextCause) : Type 0 where
   pub breaks : Breaks row rest n cause
   pub whole : t ≡ before ++ rest
 
--- the data may not end in this row: behind a sign and in a list, whose lines are named. Behind a name they
--- never end, since each data line has its end, which may not follow a name
+-- the data may not end in this row: behind a sign and in a list, whose lines are named. Behind a
+-- name they never end, since each data line has its end, which may not follow a name
 abbrev pub IsUnfinished : Row → ℕ → TextCause → Type 0
 IsUnfinished between n cause = ⊥
 IsUnfinished behind_name n cause = ⊥

@@ -1,5 +1,5 @@
--- The assignments of a kernel, after NAIF's Kernel Required Reading. The
--- limit of 32 bytes for a name is that of the Toolkit's kernel pool. A line feed is the end of a line.
+-- The assignments of a kernel, after NAIF's Kernel Required Reading. The limit of 32 bytes for a
+-- name is that of the Toolkit's kernel pool. A line feed is the end of a line.
 use Rattle.std.specs.Prelude.{◌≡◌, ℕ, ◌<◌, ◌≤◌, Bool, true, false, List, [], ◌∷◌, ◌++◌, length, IsTrue, ⊤, ◌⊎◌}
 use Rattle.std.specs.List.{list_all}
 use Rattle.st_text.specs.Ascii.{line_feed, open_paren, close_paren, plus, equals_sign}
@@ -38,7 +38,8 @@ abbrev pub SpellsSign : Mode → ℕ → Data → Type 0
 SpellsSign Set n t = t ≡ (n, equals_sign) ∷ []
 SpellsSign Add n t = (k : ℕ) × (t ≡ (k, plus) ∷ ((n, equals_sign) ∷ []))
 
--- an assignment up to its value: a name, blanks, a sign of line n, and what may stand before a value
+-- an assignment up to its value: a name, blanks, a sign of line n, and what may stand before a
+-- value
 pub record SpellsHead (name : List ℕ) (mode : Mode) (n : ℕ) (t : Data) : Type 0 where
   pub word : Data
   pub blanks : Data

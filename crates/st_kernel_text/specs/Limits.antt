@@ -1,5 +1,5 @@
--- The limits of text kernels. Sources: the Toolkit's kernel pool for the bytes of a name and of a string;
--- the length of a line is this project's own.
+-- The limits of text kernels. Sources: the Toolkit's kernel pool for the bytes of a name and of a
+-- string; the length of a line is this project's own.
 use Rattle.std.specs.Prelude.{ℕ}
 
 -- the most bytes of a line, without its end

@@ -1,5 +1,5 @@
--- The reader of data as functions on bytes and their line's number: each is the twin of a function of
--- the code. Every data line is ended by a 10.
+-- The reader of data as functions on bytes and their line's number: each is the twin of a function
+-- of the code. Every data line is ended by a 10.
 use Rattle.std.specs.Prelude.{◌≡◌, ℕ, ◌-◌, Bool, not, ◌&&◌, ◌||◌, List, [], ◌∷◌, ◌++◌, length, take, slice_index, Option, Some, None, Result, Ok, Err, ◌==◌, nat_lt, nat_le, if◌then◌else◌}
 use Rattle.st_text.specs.Bytes.{is_blank}
 use Rattle.st_decimal.specs.declared.number.Dec.{Dec}

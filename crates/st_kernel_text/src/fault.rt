@@ -32,8 +32,9 @@ pub enum TextCause {
     /// A list is empty, or behind a sign the data end or a `)` stands.
     #[error("no value")]
     NoValue,
-    /// What stands where a value is due is neither a string nor a date nor a number, or a number has
-    /// more than 30 digits, an exponent outside -400 to 400, or a `(` or `'` directly behind it.
+    /// What stands where a value is due is neither a string nor a date nor a number, or a number
+    /// has more than 30 digits, an exponent outside -400 to 400, or a `(` or `'` directly behind
+    /// it.
     #[error("no number")]
     BadNumber,
     /// A string has no end on its line, has more than 80 bytes, or something follows it directly.

@@ -1,10 +1,10 @@
-//! Text kernels, after NAIF's Kernel Required Reading: every file is read to its assignments, or to its
-//! first fault and that fault's line.
+//! Text kernels, after NAIF's Kernel Required Reading: every file is read to its assignments, or to
+//! its first fault and that fault's line.
 //!
-//! What a file reads to, and which fault it has, is said in `specs/`: `File` by lines, `Grammar` and
-//! `Values` by spellings, `Faults` by the token that breaks. `read_kernel` answers that and nothing
-//! else, or `OutOfMemory` where memory is refused. The reader takes a file line by line and a data line
-//! byte by byte.
+//! What a file reads to, and which fault it has, is said in `specs/`: `File` by lines, `Grammar`
+//! and `Values` by spellings, `Faults` by the token that breaks. `read_kernel` answers that and
+//! nothing else, or `OutOfMemory` where memory is refused. The reader takes a file line by line and
+//! a data line byte by byte.
 #![tactic(auto)]
 
 mod assignment;

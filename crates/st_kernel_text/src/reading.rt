@@ -20,9 +20,10 @@ use std::alloc::Global;
 ///
 /// # Errors
 ///
-/// The first fault and its line, counted from 1 over the whole file. In each line its length comes first,
-/// then, in data, its bytes, then its tokens from left to right. That the data end behind a sign or in a
-/// list comes last, with the line of the sign or of the `(`. `OutOfMemory` where memory is refused.
+/// The first fault and its line, counted from 1 over the whole file. In each line its length comes
+/// first, then, in data, its bytes, then its tokens from left to right. That the data end behind a
+/// sign or in a list comes last, with the line of the sign or of the `(`. `OutOfMemory` where
+/// memory is refused.
 pub fn read_kernel(alloc: Global, bytes: &[u8]) -> Result<AssignmentList, TextFault>
     ensures reads { Reads bytes.now result }
     ensures only { (answer : Result (List Item) Fault) → Reads bytes.now answer → Agree result answer }
@@ -97,7 +98,8 @@ mod tests {
             [x] => assert!(rt; is_named(x, b"X", Mode::Add) && is_number(&x.values, 1, 0)),
             _ => assert!(rt; false),
         }
-        let file = b"KPL\r\n\\begindata\r\nA_NAME_OF_MORE_THAN_16_BYTES_YET= ( 'a string of more than ten bytes', 'b' )\r\n\r\n\\begintext\r\nX = 1\r";
+        let file =
+            b"KPL\r\n\\begindata\r\nA_NAME_OF_MORE_THAN_16_BYTES_YET= ( 'a string of more than ten bytes', 'b' )\r\n\r\n\\begintext\r\nX = 1\r";
         let windows = read_kernel(rt.alloc(), file)?;
         match windows.as_slice() {
             [x] => {

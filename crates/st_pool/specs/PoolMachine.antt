@@ -10,7 +10,8 @@ use Rattle.st_pool.specs.declared.kinds.Kinds.{Kinds}
 use Rattle.st_pool.specs.Loaded.{is_named}
 use Rattle.st_pool.specs.Variable.{is_of, is_set, is_number, is_text}
 
--- the place of the last kernel of the name, where the list begins at place i, or the one found before
+-- the place of the last kernel of the name, where the list begins at place i, or the one found
+-- before
 abbrev pub last_place : List ℕ → ℕ → Option ℕ → List Kernel → Option ℕ
 last_place name i found [] = found
 last_place name i found (k ∷ more) = last_place name (i + 1) (if is_named name k then Some i else found) more

@@ -40,11 +40,13 @@ abbrev pub is_text : Value → Bool
 is_text (Number d) = false
 is_text (Text t) = true
 
--- the kind of the values of a variable that has an assignment. One of no values, which no kernel's text has, is of numbers.
+-- the kind of the values of a variable that has an assignment. One of no values, which no kernel's
+-- text has, is of numbers.
 abbrev pub kind_of_values : List Value → Kind
 kind_of_values values = if list_any is_text values then (if list_any is_number values then Mixed else Texts) else Numbers
 
--- the kind of the variable of this name: absent where it has no assignment, and mixed where its values are of both kinds
+-- the kind of the variable of this name: absent where it has no assignment, and mixed where its
+-- values are of both kinds
 abbrev pub kind_of : List ℕ → List Assignment → Kind
 kind_of name assignments = if list_any (is_of name) assignments then kind_of_values (values_of name assignments) else Absent
 

@@ -37,7 +37,9 @@ pub fn find<'a>(kernels: &'a [Kernel], name: &[u8], i: usize) -> Found<'a>
 /// What is found after some more assignments.
 fn find_in<'a>(before: Found<'a>, assignments: &'a [Assignment], name: &[u8], i: usize) -> Found<'a>
     requires { before.count + value_count assignments.now ≤ most_values }
-    ensures found { (result.count, option_copied result.value) ≡ machine.found_in name.now i (before.entry.count, option_copied before.entry.value) assignments.now }
+    ensures found { (result.count, option_copied result.value)
+        ≡ machine.found_in name.now i
+        (before.entry.count, option_copied before.entry.value) assignments.now }
     ensures most { result.count ≤ before.entry.count + value_count assignments.now }
 {
     let mut found = before;
@@ -50,7 +52,9 @@ fn find_in<'a>(before: Found<'a>, assignments: &'a [Assignment], name: &[u8], i:
 /// What is found after one more assignment.
 fn find_next<'a>(before: Found<'a>, assignment: &'a Assignment, name: &[u8], i: usize) -> Found<'a>
     requires { before.count + length assignment.now.values ≤ most_values }
-    ensures found { (result.count, option_copied result.value) ≡ machine.found_after name.now i (before.entry.count, option_copied before.entry.value) assignment.now }
+    ensures found { (result.count, option_copied result.value)
+        ≡ machine.found_after name.now i
+        (before.entry.count, option_copied before.entry.value) assignment.now }
     ensures most { result.count ≤ before.entry.count + length assignment.now.values }
 {
     if assignment.name.as_slice() != name {
@@ -71,7 +75,8 @@ fn find_next<'a>(before: Found<'a>, assignment: &'a Assignment, name: &[u8], i: 
 
 /// The value at place i of those before and these behind them.
 fn value_at<'a>(before: Found<'a>, values: &'a [Value], i: usize) -> Option<&'a Value>
-    ensures { option_copied result ≡ machine.value_at i (before.entry.count, option_copied before.entry.value) values.now }
+    ensures { option_copied result ≡ machine.value_at i
+        (before.entry.count, option_copied before.entry.value) values.now }
 {
     if i < before.count {
         before.value

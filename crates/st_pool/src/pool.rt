@@ -64,10 +64,13 @@ impl Pool {
     ///
     /// [`LoadFault`]; the pool is then as before, and the assignments are dropped.
     pub fn load(&mut self, name: &[u8], assignments: AssignmentList) -> Result<(), LoadFault>
-        ensures loaded { OnOk result (self.new ≡ self.old ++ record { name = name.now; assignments = assignments } ∷ []) }
+        ensures loaded { OnOk result
+            (self.new ≡ self.old ++ record { name = name.now; assignments = assignments } ∷ []) }
         ensures refused { OnErr result (self.new ≡ self.old) }
         ensures too_many_kernels { result ≡ Err TooManyKernels ↔ most_kernels ≤ length self.old }
-        ensures too_many_values { result ≡ Err TooManyValues ↔ ((length self.old < most_kernels) × (most_values < loaded_count self.old + value_count assignments)) }
+        ensures too_many_values { result ≡ Err TooManyValues
+            ↔ ((length self.old < most_kernels)
+            × (most_values < loaded_count self.old + value_count assignments)) }
     {
         if self.kernels.len() >= MAX_KERNELS {
             return Err(LoadFault::TooManyKernels);
@@ -116,7 +119,8 @@ impl Pool {
     /// The name of the kernel at a place in the order of loading, from 0; none from the length on.
     pub fn name_at(&self, i: usize) -> Option<&[u8]>
         ensures none { IsNone result ↔ (length self.now ≤ i) }
-        ensures some { IfSome result (λ name. IfSome (slice_get self.now i) (λ kernel. name.now ≡ kernel.name)) }
+        ensures some { IfSome result (λ name.
+            IfSome (slice_get self.now i) (λ kernel. name.now ≡ kernel.name)) }
     {
         let kernel = self.kernels.get(i)?;
         Some(kernel.name.as_slice())
@@ -150,7 +154,8 @@ fn append(
     name: &[u8],
     assignments: AssignmentList,
 ) -> Result<(), OutOfMemory>
-    ensures ok { OnOk result (kernels.new.items ≡ kernels.old.items ++ record { name = name.now; assignments = assignments } ∷ []) }
+    ensures ok { OnOk result (kernels.new.items
+        ≡ kernels.old.items ++ record { name = name.now; assignments = assignments } ∷ []) }
     ensures err { OnErr result (kernels.new.items ≡ kernels.old.items) }
 {
     let name = KText::from_slice(*kernels.allocator(), name)?;

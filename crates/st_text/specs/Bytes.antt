@@ -25,7 +25,8 @@ number_of (b ∷ bs) = (b - digit_zero) * 10 ^ length bs + number_of bs
 -- the digits of a number, the most significant first, with zeros before them where they are fewer
 -- than the width; std's digits of 0 are none, so 0 is as many zeros as the width says
 abbrev pub padded : ℕ → ℕ → List ℕ
-padded width n = replicate (width - length (digits_of 10 n)) digit_zero ++ map (λ d. digit_zero + d) (digits_of 10 n)
+padded width n =
+    replicate (width - length (digits_of 10 n)) digit_zero ++ map (λ d. digit_zero + d) (digits_of 10 n)
 
 -- the digits of a number, and the one digit 0 for zero
 abbrev pub decimal_digits : ℕ → List ℕ

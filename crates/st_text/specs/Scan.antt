@@ -38,4 +38,5 @@ pub record IsDigitRun (low high : ℕ) (text : List ℕ) : Type 0 where
 
 -- the same as a test
 unfoldable pub is_digit_run : ℕ → ℕ → List ℕ → Bool
-is_digit_run low high text = are_digits text && (nat_le low (length text) && nat_le (length text) high)
+is_digit_run low high text =
+    are_digits text && (nat_le low (length text) && nat_le (length text) high)

@@ -33,7 +33,11 @@ pub fn write_padded(buffer: &mut [u8], end: usize, number: u128, width: usize) -
 
 /// Appends the digits of a number, with zeros before them where they are fewer than `width`.
 ///
-/// Zero has as many digits as `width` says. Where memory is refused nothing is appended.
+/// Zero has as many digits as `width` says.
+///
+/// # Errors
+///
+/// `AllocError` where memory is refused; nothing is appended then.
 pub fn put_padded(out: &mut Vec<u8>, number: u128, width: usize) -> Result<(), AllocError>
     requires { width ≤ MOST_DIGITS }
     ensures ok { OnOk result (out.new.items ≡ out.old.items ++ padded width number) }
