@@ -3,9 +3,9 @@ use Rattle.std.proofs.Common.{◌≡◌, ℕ, zero, suc, ◌+◌, ◌*◌, ◌<�
 use Rattle.std.specs.Prelude.{slice_get}
 use Rattle.std.proofs.lemmas.Int.{ints, by_lt_z}
 use Rattle.std.proofs.lemmas.Option.{none-some, same_Some}
-use Rattle.st_dates.specs.AtDate.{moment, IsInRange as IsTimeInRange}
+use Rattle.st_dates.specs.AtDate.{moment}
 use Rattle.st_dates.specs.Label.{formal}
-use Rattle.st_dates.specs.Range.{range_start, range_end}
+use Rattle.st_dates.specs.Range.{IsInRange as IsTimeInRange, range_start, range_end}
 use Rattle.st_dates.specs.declared.label.Label.{Label}
 use Rattle.st_decimal.specs.Scaling.{IsUnits18}
 use Rattle.st_decimal.specs.declared.number.Dec.{Dec}

@@ -3,7 +3,8 @@
 -- is this project's reading.
 use Rattle.std.specs.Prelude.{◌≡◌, ℕ, ◌+◌, ◌≤◌, ℤ, pos, ◌-ℤ◌, ◌<ℤ◌, int_le, unsigned_abs, List, [], ◌∷◌, length, slice_get, reverse, find, Option, Some, None}
 use Rattle.std.specs.List.{All}
-use Rattle.st_dates.specs.AtDate.{moment, IsInRange as IsTimeInRange}
+use Rattle.st_dates.specs.AtDate.{moment}
+use Rattle.st_dates.specs.Range.{IsInRange as IsTimeInRange}
 use Rattle.st_leaps.specs.declared.pair.LeapPair.{LeapPair}
 
 -- the counts and the dates that a table may have
