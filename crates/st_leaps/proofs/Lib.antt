@@ -8,3 +8,4 @@ pub mod Decimals
 pub mod NumberLaws
 pub mod FaultLaws
 pub mod AnswerLaws
+mod Examples

@@ -1,4 +1,5 @@
--- The rules of a table of leap seconds, by the faults that name them, and the first one that numbers break.
+-- The rules of a table of leap seconds, by the faults that name them, and the first one that
+-- numbers break.
 use Rattle.std.specs.Prelude.{◌≡◌, ◌≢◌, ℕ, ◌+◌, ◌*◌, ◌%◌, ◌<◌, ◌≤◌, ℤ, pos, ◌-ℤ◌, ◌≤ℤ◌, unsigned_abs, List, [], length, Result, Ok, Err, ⊤}
 use Rattle.st_decimal.specs.declared.number.Dec.{Dec}
 use Rattle.st_leaps.specs.Numbers.{HasCount, HasDay, IsTableOf}
@@ -42,7 +43,8 @@ Breaks numbers (NotRising n) = FallsBack numbers n
 Breaks numbers (BadStep n) = LeapsBadly numbers n
 Breaks numbers OutOfMemory = ⊥
 
--- the place of a rule in the order in which breaches are reported: three for all numbers, then four for each pair
+-- the place of a rule in the order in which breaches are reported: three for all numbers, then
+-- four for each pair
 abbrev pub place_of : LeapFault → ℕ
 place_of Empty = 0
 place_of Odd = 1

@@ -1,6 +1,6 @@
--- Labels: a day and a second of that day, in a scale whose days are told by a count, the seconds that they are behind TAI.
--- UTC's days have the counts of a table of leap seconds. The days of all other scales are even: they have 86,400 s, and
--- the count 0 on each.
+-- Labels: a day and a second of that day, in a scale whose days are told by a count, the seconds
+-- that they are behind TAI. UTC's days have the counts of a table of leap seconds. The days of all
+-- other scales are even: they have 86,400 s, and the count 0 on each. Source: Time Required Reading.
 use Rattle.std.specs.Prelude.{◌≡◌, ◌⊎◌, ℤ, pos, neg_ℤ, ◌+ℤ◌, ◌-ℤ◌, ◌*ℤ◌, ◌≤ℤ◌, ◌<ℤ◌}
 use Rattle.st_fraction.specs.Fraction.{Fraction, IsFraction, ◌≤ᶠ◌, ◌<ᶠ◌, ◌≈ᶠ◌, whole, units, ◌+ᶠ◌}
 use Rattle.st_dates.specs.declared.label.Label.{Label}
@@ -19,7 +19,7 @@ pub record AreCounts (count : ℤ → ℤ) : Type 0 where
   pub from : (day : ℤ) → neg_ℤ (pos 1) ≤ℤ count day
   pub to : (day : ℤ) → count day ≤ℤ pos 1000
 
--- the seconds of a day: 86,400, and by how much the count of the next day is more than that of the day
+-- the seconds of a day: 86,400, and by how much the count of the next day is more than its own
 abbrev pub length_of : (ℤ → ℤ) → ℤ → ℤ
 length_of count day = pos 86_400 +ℤ count (day +ℤ pos 1) -ℤ count day
 

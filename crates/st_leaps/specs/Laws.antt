@@ -14,11 +14,15 @@ use Rattle.st_leaps.specs.declared.table.LeapTable.{LeapTable}
 
 -- Every list of numbers is a table, or has a first rule that it breaks.
 abbrev pub EachHasAnswer : Type 0
-EachHasAnswer = (numbers : List Dec) → (answer : Result (List LeapPair) LeapFault) × Gives numbers answer × (answer ≢ Err OutOfMemory)
+EachHasAnswer =
+    (numbers : List Dec)
+    → (answer : Result (List LeapPair) LeapFault) × Gives numbers answer × (answer ≢ Err OutOfMemory)
 
 -- It is not both, and there is one table at most, and one first rule.
 abbrev pub OneAnswer : Type 0
-OneAnswer = (numbers : List Dec) (a b : Result (List LeapPair) LeapFault) → Gives numbers a → Gives numbers b → Agree a b
+OneAnswer =
+    (numbers : List Dec) (a b : Result (List LeapPair) LeapFault)
+    → Gives numbers a → Gives numbers b → Agree a b
 
 -- The days of a table have counts, from one less than none to 1,000, and so have even days.
 abbrev pub EachTableCounts : Type 0
@@ -34,11 +38,14 @@ EvenDaysCount = AreCounts even_days
 abbrev pub DayLengths : Type 0
 DayLengths =
     (pairs : List LeapPair) (day : ℤ) → IsLeapTable pairs
-    → (pos 86_399 ≤ℤ length_of (count_on pairs) day) × (length_of (count_on pairs) day ≤ℤ pos 86_401)
+    → (pos 86_399 ≤ℤ length_of (count_on pairs) day)
+    × (length_of (count_on pairs) day ≤ℤ pos 86_401)
 
 -- Each time has a label, whatever fraction of a second it is.
 abbrev pub EachHasLabel : Type 0
-EachHasLabel = (count : ℤ → ℤ) (v : Fraction) → AreCounts count → IsFraction v → (label : Stamp) × IsLabelOf count v label
+EachHasLabel =
+    (count : ℤ → ℤ) (v : Fraction) → AreCounts count → IsFraction v
+    → (label : Stamp) × IsLabelOf count v label
 
 -- It has one label.
 abbrev pub OneLabel : Type 0
@@ -48,12 +55,15 @@ OneLabel =
 
 -- A label has one time.
 abbrev pub OneTime : Type 0
-OneTime = (count : ℤ → ℤ) (v w : Fraction) (label : Stamp) → IsLabelOf count v label → IsLabelOf count w label → v ≈ᶠ w
+OneTime =
+    (count : ℤ → ℤ) (v w : Fraction) (label : Stamp)
+    → IsLabelOf count v label → IsLabelOf count w label → v ≈ᶠ w
 
 -- A label that a day has is the label of a time, and one that it hasn't is that of none.
 abbrev pub LabelsHaveTimes : Type 0
 LabelsHaveTimes =
-    (count : ℤ → ℤ) (label : Stamp) → IsLabel count label ↔ ((v : Fraction) × IsFraction v × IsLabelOf count v label)
+    (count : ℤ → ℤ) (label : Stamp)
+    → IsLabel count label ↔ ((v : Fraction) × IsFraction v × IsLabelOf count v label)
 
 -- Labels rise with time, and time with labels.
 abbrev pub LabelsRise : Type 0
@@ -61,20 +71,25 @@ LabelsRise =
     (count : ℤ → ℤ) (v w : Fraction) (a b : Stamp) → AreCounts count → IsFraction v → IsFraction w
     → IsLabelOf count v a → IsLabelOf count w b → (v ≤ᶠ w) ↔ (a ≤ˡ b)
 
--- A time between two units has the label of the lower one, and what is left of the time added to its second.
+-- A time between two units has the label of the lower one, and what is left of the time added to
+-- its second.
 abbrev pub LabelOfFloor : Type 0
 LabelOfFloor =
-    (count : ℤ → ℤ) (v : Fraction) (n : ℤ) (label : Stamp) → IsFraction v → units n ≤ᶠ v → v <ᶠ units (n +ℤ pos 1)
+    (count : ℤ → ℤ) (v : Fraction) (n : ℤ) (label : Stamp)
+    → IsFraction v → units n ≤ᶠ v → v <ᶠ units (n +ℤ pos 1)
     → IsLabelOf count (units n) label
     → IsLabelOf count v (record { day = label.day; second = label.second +ᶠ (v -ᶠ units n) })
 
--- There and back: the label of a label's time is that label, and the time of a time's label is that time.
+-- There and back: the label of a label's time is that label, and the time of a time's label is
+-- that time.
 abbrev pub LabelReturns : Type 0
 LabelReturns =
     (count : ℤ → ℤ) (label other : Label) (tai : ℤ) → AreCounts count
-    → IsLabelOf count (units tai) (in_units label) → IsLabelOf count (units tai) (in_units other) → other ≡ label
+    → IsLabelOf count (units tai) (in_units label) → IsLabelOf count (units tai) (in_units other)
+    → other ≡ label
 
 abbrev pub TimeReturns : Type 0
 TimeReturns =
     (count : ℤ → ℤ) (label : Label) (tai other : ℤ)
-    → IsLabelOf count (units tai) (in_units label) → IsLabelOf count (units other) (in_units label) → other ≡ tai
+    → IsLabelOf count (units tai) (in_units label) → IsLabelOf count (units other) (in_units label)
+    → other ≡ tai

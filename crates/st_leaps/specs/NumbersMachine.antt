@@ -15,20 +15,24 @@ pub record HasLength (n : ℕ) : Type 0 where
 
 -- the first numbers are these pairs, which keep the rules
 pub record AreSpelled (numbers : List Dec) (pairs : List LeapPair) : Type 0 where
-  pub counts : (k : ℕ) (p : LeapPair) → slice_get pairs k ≡ Some p → HasCount numbers (k + 1) p.count
-  pub days : (k : ℕ) (p : LeapPair) → slice_get pairs k ≡ Some p → HasDay numbers (k + 1) p.day
+  pub counts : (k : ℕ) (p : LeapPair)
+      → slice_get pairs k ≡ Some p → HasCount numbers (k + 1) p.count
+  pub days : (k : ℕ) (p : LeapPair)
+      → slice_get pairs k ≡ Some p → HasDay numbers (k + 1) p.day
   pub rise : Rise pairs
 
 -- what a count and a date give as pair n
 abbrev pub PairGives : Dec → Dec → ℕ → Result LeapPair LeapFault → Type 0
 PairGives count date n (Ok p) = IsCount count p.count × IsMidnight date p.day
 PairGives count date n (Err (NotWhole m)) = (m ≡ n) × ((c : ℕ) → IsCount count c → ⊥)
-PairGives count date n (Err (NotMidnight m)) = (m ≡ n) × ((c : ℕ) × IsCount count c) × ((day : ℤ) → IsMidnight date day → ⊥)
+PairGives count date n (Err (NotMidnight m)) =
+    (m ≡ n) × ((c : ℕ) × IsCount count c) × ((day : ℤ) → IsMidnight date day → ⊥)
 PairGives count date n (Err fault) = ⊥
 
 -- what a pair and the one before it give
 abbrev pub StepGives : LeapPair → LeapPair → ℕ → Result (Unit {0}) LeapFault → Type 0
 StepGives p q n (Ok done) = IsStep p q
 StepGives p q n (Err (NotRising m)) = (m ≡ n) × (q.day ≤ℤ p.day)
-StepGives p q n (Err (BadStep m)) = (m ≡ n) × (p.day <ℤ q.day) × (unsigned_abs (pos q.count -ℤ pos p.count) ≢ 1)
+StepGives p q n (Err (BadStep m)) =
+    (m ≡ n) × (p.day <ℤ q.day) × (unsigned_abs (pos q.count -ℤ pos p.count) ≢ 1)
 StepGives p q n (Err fault) = ⊥

@@ -1,6 +1,6 @@
--- Tables of leap seconds, by the header of NAIF's leapseconds kernels and the Time Required Reading: from its date on, TAI
--- is a pair's count of seconds ahead of UTC. That a count may be one less than the one before, so that a second is removed,
--- is this project's reading.
+-- Tables of leap seconds, by the header of NAIF's leapseconds kernels and Time Required Reading:
+-- from its date on, TAI is a pair's count of seconds ahead of UTC. That a count may be one less than
+-- the one before, so that a second is removed, is this project's reading.
 use Rattle.std.specs.Prelude.{◌≡◌, ℕ, ◌+◌, ◌≤◌, ℤ, pos, ◌-ℤ◌, ◌<ℤ◌, int_le, unsigned_abs, List, [], ◌∷◌, length, slice_get, reverse, find, Option, Some, None}
 use Rattle.std.specs.List.{All}
 use Rattle.st_dates.specs.AtDate.{moment}
@@ -24,7 +24,9 @@ pub record IsStep (p q : LeapPair) : Type 0 where
   pub step : unsigned_abs (pos q.count -ℤ pos p.count) ≡ 1
 
 abbrev pub Rise : List LeapPair → Type 0
-Rise pairs = (k : ℕ) (p q : LeapPair) → slice_get pairs k ≡ Some p → slice_get pairs (k + 1) ≡ Some q → IsStep p q
+Rise pairs =
+    (k : ℕ) (p q : LeapPair) → slice_get pairs k ≡ Some p → slice_get pairs (k + 1) ≡ Some q
+    → IsStep p q
 
 pub record IsLeapTable (pairs : List LeapPair) : Type 0 where
   pub some : 1 ≤ length pairs

@@ -50,7 +50,8 @@ fn last_pair(pairs: &[LeapPair], day: i32) -> Option<LeapPair>
 fn pairs_until(pairs: &[LeapPair], day: i32) -> usize
     requires { Rise pairs.now }
     ensures bound { result ≤ length pairs.now }
-    ensures point { IsPartitionPoint (λ p. int_le p.day day ≡ true) (λ p. int_le p.day day ≡ false) pairs.now result }
+    ensures point { IsPartitionPoint
+        (λ p. int_le p.day day ≡ true) (λ p. int_le p.day day ≡ false) pairs.now result }
 {
     pairs.partition_point(
         |pair: &LeapPair| -> bool

@@ -3,6 +3,8 @@
 ghost use Rattle.std.specs.Prelude.{◌≡◌};
 
 use st_decimal::OutOfMemory;
+use std::error::Error;
+use std::fmt;
 
 /// Why numbers are no table of leap seconds, in the order in which the rules are tested: first the
 /// three for all numbers, then the four others for each pair in turn. A fault of a pair carries the
@@ -27,6 +29,23 @@ pub enum LeapFault {
     OutOfMemory,
 }
 
+impl fmt::Display for LeapFault {
+    fn fmt<W: fmt::Write>(&self, f: &mut fmt::Formatter<W>) -> fmt::Result {
+        match self {
+            LeapFault::Empty => write!(f, "there are no leap seconds"),
+            LeapFault::Odd => write!(f, "a count has no date"),
+            LeapFault::TooMany => write!(f, "there are more than 1,000 leap seconds"),
+            LeapFault::NotWhole(n) => write!(f, "pair {n}: no count from 0 to 1,000"),
+            LeapFault::NotMidnight(n) => write!(f, "pair {n}: no midnight in the range"),
+            LeapFault::NotRising(n) => write!(f, "pair {n}: not later than the one before"),
+            LeapFault::BadStep(n) => write!(f, "pair {n}: a count not one more or one less"),
+            LeapFault::OutOfMemory => write!(f, "out of memory"),
+        }
+    }
+}
+
+impl Error for LeapFault {}
+
 impl From<OutOfMemory> for LeapFault {
     ghost use Rattle.st_leaps.specs.declared.fault.LeapFault.TheVariants.{OutOfMemory as NoMemory};
 
@@ -40,3 +59,11 @@ impl From<OutOfMemory> for LeapFault {
 /// The day of a label doesn't have the label's second.
 #[derive(Clone, Copy, Debug, PartialEq, Eq)]
 pub struct NoSuchSecond;
+
+impl fmt::Display for NoSuchSecond {
+    fn fmt<W: fmt::Write>(&self, f: &mut fmt::Formatter<W>) -> fmt::Result {
+        write!(f, "the day has no such second")
+    }
+}
+
+impl Error for NoSuchSecond {}

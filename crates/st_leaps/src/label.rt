@@ -39,7 +39,8 @@ pub(crate) fn utc_of(pairs: &[LeapPair], tai: i128) -> Label
     requires table { IsLeapTable pairs.now }
     requires range { IsTai tai }
     ensures is { IsLabelOf (table.count_on pairs.now) (units tai) (in_units result) }
-    ensures only { (label : TheLabel) → IsLabelOf (table.count_on pairs.now) (units tai) (in_units label) → result ≡ label }
+    ensures only { (label : TheLabel)
+        → IsLabelOf (table.count_on pairs.now) (units tai) (in_units label) → result ≡ label }
     ensures day_from { neg_ℤ (pos 73_050) ≤ℤ result.day }
     ensures day_to { result.day ≤ℤ pos 73_050 }
     ensures from { pos 0 ≤ℤ result.of_day }

@@ -41,7 +41,9 @@ impl LeapTable {
     /// numbers together, and then for each pair in turn; or want of memory.
     pub fn from_pairs(alloc: Global, values: &[Dec]) -> Result<LeapTable, LeapFault>
         ensures gives { Gives values.now (answer_of result) }
-        ensures only { (answer : Result (List Pair) Fault) → Gives values.now answer → Agree (answer_of result) answer }
+        // No other answer meets it.
+        ensures only { (answer : Result (List Pair) Fault)
+            → Gives values.now answer → Agree (answer_of result) answer }
     {
         test_length(values)?;
         let mut pairs = Vec::new(alloc);
@@ -53,7 +55,7 @@ impl LeapTable {
     }
 
     /// TAI of a UTC label, in units of 10^-18 s past J2000: the label's formal count, and the count
-    /// of its day.
+    /// of its day. The formal count is at most 6,311,600,000 s in magnitude.
     ///
     /// # Errors
     ///
@@ -73,7 +75,9 @@ impl LeapTable {
     pub fn utc_of(&self, tai: i128) -> Label
         requires { IsTai tai }
         ensures is { IsLabelOf (count_of self.now) (units tai) (in_units result) }
-        ensures only { (label : TheLabel) → IsLabelOf (count_of self.now) (units tai) (in_units label) → result ≡ label }
+        // No other label meets it.
+        ensures only { (label : TheLabel)
+            → IsLabelOf (count_of self.now) (units tai) (in_units label) → result ≡ label }
         ensures day_from { neg_ℤ (pos 73_050) ≤ℤ result.day }
         ensures day_to { result.day ≤ℤ pos 73_050 }
         ensures from { pos 0 ≤ℤ result.of_day }

@@ -171,6 +171,26 @@ fn error_of(answer: Result<LeapTable, LeapFault>) -> Option<LeapFault> {
     answer.err()
 }
 
+/// The most seconds in magnitude of the times that are tried.
+const MOST: i128 = 6_311_500_000;
+
+/// What a label that is tried has as TAI.
+fn tai_of(table: &LeapTable, day: i32, of_day: i128) -> Option<Result<i128, NoSuchSecond>> {
+    if day < -73_050 || 73_050 < day || of_day < -SECOND || 86_402 * SECOND < of_day {
+        return None;
+    }
+    Some(table.tai_of(Label { day, of_day }))
+}
+
+/// The day and the units of it of the label of a TAI that is tried.
+fn utc_of(table: &LeapTable, tai: i128) -> Option<(i32, i128)> {
+    if tai < -MOST * SECOND || MOST * SECOND < tai {
+        return None;
+    }
+    let label = table.utc_of(tai);
+    Some((label.day, label.of_day))
+}
+
 #[test]
 fn tells_labels_both_ways(rt: HostRuntime) -> Result<(), Fail> {
     let alloc = rt.alloc();
@@ -183,16 +203,11 @@ fn tells_labels_both_ways(rt: HostRuntime) -> Result<(), Fail> {
         return Ok(());
     };
     for (day, of_day, tai) in LABELS {
-        assert!(rt; -73_050 <= day && day <= 73_050);
-        assert!(rt; 0 <= of_day && of_day <= 86_401 * SECOND);
-        assert!(rt; -6_311_500_000 * SECOND <= tai && tai <= 6_311_500_000 * SECOND);
-        assert_eq!(rt; table.tai_of(Label { day, of_day }), Ok(tai));
-        assert_eq!(rt; table.utc_of(tai), Label { day, of_day });
+        assert_eq!(rt; tai_of(&table, day, of_day), Some(Ok(tai)));
+        assert_eq!(rt; utc_of(&table, tai), Some((day, of_day)));
     }
     for (day, of_day) in NO_LABELS {
-        assert!(rt; -73_050 <= day && day <= 73_050);
-        assert!(rt; -1 <= of_day && of_day <= 86_401 * SECOND);
-        assert_eq!(rt; table.tai_of(Label { day, of_day }), Err(NoSuchSecond));
+        assert_eq!(rt; tai_of(&table, day, of_day), Some(Err(NoSuchSecond)));
     }
     Ok(())
 }
@@ -285,8 +300,12 @@ fn finds_the_first_fault(rt: HostRuntime) -> Result<(), Fail> {
 fn takes_a_thousand_pairs(rt: HostRuntime) -> Result<(), Fail> {
     let alloc = rt.alloc();
     let mut numbers = Vec::new(alloc);
-    for k in 0..1000 {
-        add(&mut numbers, 1000 - i128::from(k % 2), 73 * k - 36_524)?;
+    for k in 0..1000_u16 {
+        add(
+            &mut numbers,
+            1000 - i128::from(k % 2),
+            73 * i32::from(k) - 36_524,
+        )?;
     }
     let Ok(table) = LeapTable::from_pairs(alloc, numbers.as_slice()) else {
         assert!(rt; false);
@@ -303,11 +322,8 @@ fn takes_a_thousand_pairs(rt: HostRuntime) -> Result<(), Fail> {
         (36_403, 0, 3_145_176_999 * SECOND),
     ];
     for (day, of_day, tai) in rows {
-        assert!(rt; -73_050 <= day && day <= 73_050);
-        assert!(rt; 0 <= of_day && of_day <= 86_401 * SECOND);
-        assert!(rt; -6_311_500_000 * SECOND <= tai && tai <= 6_311_500_000 * SECOND);
-        assert_eq!(rt; table.tai_of(Label { day, of_day }), Ok(tai));
-        assert_eq!(rt; table.utc_of(tai), Label { day, of_day });
+        assert_eq!(rt; tai_of(&table, day, of_day), Some(Ok(tai)));
+        assert_eq!(rt; utc_of(&table, tai), Some((day, of_day)));
     }
     // A pair too many is told before the first pair's count.
     add(&mut numbers, 1000, 36_500)?;
