@@ -5,3 +5,5 @@ pub mod Found
 pub mod Routes
 pub mod Returns
 pub mod Units
+pub mod Numbers
+pub mod OneAnswer

@@ -4,7 +4,7 @@
 //! constants are those of a leapseconds kernel. No call allocates.
 #![tactic(auto)]
 
-//mod constants;
+mod constants;
 mod deltet;
 mod fault;
 pub mod laws;
