@@ -89,16 +89,16 @@ tdb_moves_low c t u e s a v pt pu pe ps pa pv near slack room low = record {
       let w : 0 < 10 ^ 18 = lit< tt in
       let hu = sine_high-den c u m pu in
       le_of_near v (tdb_high c u m) pv.positive (mul-pos pu.positive (mul-pos hu w)) (λ d pd some.
-          let s' = sine_narrows c t d pt pd some in
-          let n = s'.0 in
-          let ht = sine_high-den c t n pt in
-          let step = anomaly_step c.orbit.eb c.orbit.m1 e in
-          let far = through (sine_high c t n) (sine_low c t n) (sine_high c u m) step d ht (sine_low-den c t n pt) hu (step-den c e pe) pd.positive s'.1.1
-          (sine_moves c t u e n m pt pu pe near s'.1.0 fu) in
-          let k = scaled c.k (sine_high c t n) (sine_high c u m) step s d c.k_low c.k_high ht hu (step-den c e pe) ps.positive pd.positive (le_of_lt_f (whole (pos 0)) d some)
-          (small c t u e s pt pu pe ps near slack) far in
-          join v t s a u (sine_high c t n *ᶠ units c.k) (sine_high c u m *ᶠ units c.k) d pv.positive pt.positive ps.positive pa.positive pu.positive (mul-pos ht w) (mul-pos hu w) pd.positive
-          room (low.at_each n s'.1.0) k);
+      let s' = sine_narrows c t d pt pd some in
+      let n = s'.0 in
+      let ht = sine_high-den c t n pt in
+      let step = anomaly_step c.orbit.eb c.orbit.m1 e in
+      let far = through (sine_high c t n) (sine_low c t n) (sine_high c u m) step d ht (sine_low-den c t n pt) hu (step-den c e pe) pd.positive s'.1.1
+      (sine_moves c t u e n m pt pu pe near s'.1.0 fu) in
+      let k = scaled c.k (sine_high c t n) (sine_high c u m) step s d c.k_low c.k_high ht hu (step-den c e pe) ps.positive pd.positive (le_of_lt_f (whole (pos 0)) d some)
+      (small c t u e s pt pu pe ps near slack) far in
+      join v t s a u (sine_high c t n *ᶠ units c.k) (sine_high c u m *ᶠ units c.k) d pv.positive pt.positive ps.positive pa.positive pu.positive (mul-pos ht w) (mul-pos hu w) pd.positive
+      room (low.at_each n s'.1.0) k);
 }
   where
     join : (v t s a u p q d : Fraction) → 0 < v.den → 0 < t.den → 0 < s.den → 0 < a.den → 0 < u.den → 0 < p.den → 0 < q.den → 0 < d.den
@@ -117,16 +117,16 @@ tdb_moves_high c t u e s b v pt pu pe ps pb pv near slack room high = record {
       let w : 0 < 10 ^ 18 = lit< tt in
       let lu = sine_low-den c u m pu in
       le_of_near (tdb_low c u m) v (mul-pos pu.positive (mul-pos lu w)) pv.positive (λ d pd some.
-          let s' = sine_narrows c t d pt pd some in
-          let n = s'.0 in
-          let lt = sine_low-den c t n pt in
-          let step = anomaly_step c.orbit.eb c.orbit.m1 e in
-          let far = through_back (sine_low c u m) (sine_high c t n) (sine_low c t n) step d lu (sine_high-den c t n pt) lt (step-den c e pe) pd.positive
-          (sine_moves c u t e m n pu pt pe (near_turned t u e near) fu s'.1.0) s'.1.1 in
-          let k = scaled c.k (sine_low c u m) (sine_low c t n) step s d c.k_low c.k_high lu lt (step-den c e pe) ps.positive pd.positive (le_of_lt_f (whole (pos 0)) d some)
-          (small c t u e s pt pu pe ps near slack) far in
-          join b u s v t (sine_low c t n *ᶠ units c.k) (sine_low c u m *ᶠ units c.k) d pb.positive pu.positive ps.positive pv.positive pt.positive (mul-pos lt w) (mul-pos lu w) pd.positive
-          room (high.at_each n s'.1.0) k);
+      let s' = sine_narrows c t d pt pd some in
+      let n = s'.0 in
+      let lt = sine_low-den c t n pt in
+      let step = anomaly_step c.orbit.eb c.orbit.m1 e in
+      let far = through_back (sine_low c u m) (sine_high c t n) (sine_low c t n) step d lu (sine_high-den c t n pt) lt (step-den c e pe) pd.positive
+      (sine_moves c u t e m n pu pt pe (near_turned t u e near) fu s'.1.0) s'.1.1 in
+      let k = scaled c.k (sine_low c u m) (sine_low c t n) step s d c.k_low c.k_high lu lt (step-den c e pe) ps.positive pd.positive (le_of_lt_f (whole (pos 0)) d some)
+      (small c t u e s pt pu pe ps near slack) far in
+      join b u s v t (sine_low c t n *ᶠ units c.k) (sine_low c u m *ᶠ units c.k) d pb.positive pu.positive ps.positive pv.positive pt.positive (mul-pos lt w) (mul-pos lu w) pd.positive
+      room (high.at_each n s'.1.0) k);
 }
   where
     join : (b u s v t p q d : Fraction) → 0 < b.den → 0 < u.den → 0 < s.den → 0 < v.den → 0 < t.den → 0 < p.den → 0 < q.den → 0 < d.den

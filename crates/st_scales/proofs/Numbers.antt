@@ -75,8 +75,13 @@ pub range_broken : (low high : ℤ) (v : DeltetVar) (numbers : List Dec) (d : De
     → IsFirstBroken (KeepsOne low high numbers) (rules_of_one v) (Range v)
 range_broken low high v numbers d e some h =
     subst (λ (xs : List Dec). IsFirstBroken (KeepsOne low high xs) (rules_of_one v) (Range v)) (sym e)
-    (inr (refl, inr (all_one (λ x. (u : ℤ) × IsUnits x u) d some,
-        inl (refl, λ all. let b = of_all_one (λ x. (u : ℤ) → IsUnits x u → (low ≤ℤ u) × (u ≤ℤ high)) d all some.0 some.1 in h some.0 some.1 b.0 b.1))))
+    (inr (
+      refl,
+      inr (
+        all_one (λ x. (u : ℤ) × IsUnits x u) d some,
+        inl (refl, λ all. let b = of_all_one (λ x. (u : ℤ) → IsUnits x u → (low ≤ℤ u) × (u ≤ℤ high)) d all some.0 some.1 in h some.0 some.1 b.0 b.1),
+      ),
+    ))
 
 -- the faults of the two numbers of DELTET/M
 pub m_units_second : (numbers : List Dec) (d e : Dec) → numbers ≡ d ∷ e ∷ [] → (u : ℤ) × IsUnits d u → ((u : ℤ) × IsUnits e u → ⊥) → IsFirstBroken (KeepsM numbers) rules_of_m (NotUnits M1)
@@ -88,16 +93,34 @@ pub m_range_first : (numbers : List Dec) (d e : Dec) → numbers ≡ d ∷ e ∷
     → IsFirstBroken (KeepsM numbers) rules_of_m (Range M0)
 m_range_first numbers d e p some also h =
     subst (λ (xs : List Dec). IsFirstBroken (KeepsM xs) rules_of_m (Range M0)) (sym p)
-    (inr (refl, inr (all_one (λ x. (u : ℤ) × IsUnits x u) d some, inr (all_one (λ x. (u : ℤ) × IsUnits x u) e also,
-          inl (refl, λ all. let b = of_all_one (λ x. (u : ℤ) → IsUnits x u → IsInRange M0 u) d all some.0 some.1 in h some.0 some.1 b.0 b.1)))))
+    (inr (
+      refl,
+      inr (
+        all_one (λ x. (u : ℤ) × IsUnits x u) d some,
+        inr (
+          all_one (λ x. (u : ℤ) × IsUnits x u) e also,
+          inl (refl, λ all. let b = of_all_one (λ x. (u : ℤ) → IsUnits x u → IsInRange M0 u) d all some.0 some.1 in h some.0 some.1 b.0 b.1),
+        ),
+      ),
+    ))
 
 pub m_range_second : (numbers : List Dec) (d e : Dec) (m : ℤ) → numbers ≡ d ∷ e ∷ [] → IsUnits d m → IsInRange M0 m → (u : ℤ) × IsUnits e u → ((u : ℤ) → IsUnits e u → pos 0 ≤ℤ u → u ≤ℤ pos (4 * 10 ^ 11) → ⊥)
     → IsFirstBroken (KeepsM numbers) rules_of_m (Range M1)
 m_range_second numbers d e m p is within also h =
     subst (λ (xs : List Dec). IsFirstBroken (KeepsM xs) rules_of_m (Range M1)) (sym p)
-    (inr (refl, inr (all_one (λ x. (u : ℤ) × IsUnits x u) d (m, is), inr (all_one (λ x. (u : ℤ) × IsUnits x u) e also,
-          inr (all_one (λ x. (u : ℤ) → IsUnits x u → IsInRange M0 u) d (λ u k. subst (λ (z : ℤ). IsInRange M0 z) (units_one d m u is k) within),
-            inl (refl, λ all. let b = of_all_one (λ x. (u : ℤ) → IsUnits x u → IsInRange M1 u) e all also.0 also.1 in h also.0 also.1 b.0 b.1))))))
+    (inr (
+      refl,
+      inr (
+        all_one (λ x. (u : ℤ) × IsUnits x u) d (m, is),
+        inr (
+          all_one (λ x. (u : ℤ) × IsUnits x u) e also,
+          inr (
+            all_one (λ x. (u : ℤ) → IsUnits x u → IsInRange M0 u) d (λ u k. subst (λ (z : ℤ). IsInRange M0 z) (units_one d m u is k) within),
+            inl (refl, λ all. let b = of_all_one (λ x. (u : ℤ) → IsUnits x u → IsInRange M1 u) e all also.0 also.1 in h also.0 also.1 b.0 b.1),
+          ),
+        ),
+      ),
+    ))
 
 -- what `units18` answers says whether there is a count
 pub counted : (d : Dec) (o : Option ℤ) → unsigned_abs d.digits ≤ 2 ^ 127 → (d.tens +ℤ pos 18) ≤ℤ negsuc 0 → IfSome o (IsUnits18 d) → IsNone o ↔ ((u : ℤ) → IsUnits18 d u → ⊥)

@@ -141,9 +141,10 @@ route_returns c Tai u x h q a b pu px ph pq pa pb some enough low high before af
     let r : Reaches q h = record { some = some; enough = enough } in
     let d = units c.delta_ta in
     let pd : IsFraction d = record { positive = lit< tt } in
-    let pu' = ahead u c.delta_ta pu in
-    (unshifted a u q d pa pu pq pd (back_low c (u +ᶠ d) x h q (a +ᶠ d) pu' px ph pq (ahead a c.delta_ta pa) r low before),
-      unshifted u b q d pu pb pq pd (back_high c (u +ᶠ d) x h q (b +ᶠ d) pu' px ph pq (ahead b c.delta_ta pb) r high after))
+    let pu' = ahead u c.delta_ta pu in (
+      unshifted a u q d pa pu pq pd (back_low c (u +ᶠ d) x h q (a +ᶠ d) pu' px ph pq (ahead a c.delta_ta pa) r low before),
+      unshifted u b q d pu pb pq pd (back_high c (u +ᶠ d) x h q (b +ᶠ d) pu' px ph pq (ahead b c.delta_ta pb) r high after),
+    )
 route_returns c Tt u x h q a b pu px ph pq pa pb some enough low high before after =
     let r : Reaches q h = record { some = some; enough = enough } in
     (back_low c u x h q a pu px ph pq pa r low before, back_high c u x h q b pu px ph pq pb r high after)

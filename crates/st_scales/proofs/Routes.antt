@@ -61,9 +61,10 @@ route_rises c Tai Tt r s a pr ps pa h =
     let d = c.delta_ta in
     (λ low. le_f_trans a (r +ᶠ units d) (s +ᶠ units d) (ahead r d pr).positive low (same_shift r s d h), λ high. le_f_trans (r +ᶠ units d) (s +ᶠ units d) a (ahead s d ps).positive (same_shift r s d h) high)
 route_rises c Tai Tdb r s a pr ps pa h =
-    let d = c.delta_ta in
-    (λ low. tdb_rises_low c (r +ᶠ units d) (s +ᶠ units d) a (ahead r d pr) (ahead s d ps) pa (same_shift r s d h) low,
-      λ high. tdb_rises_high c (r +ᶠ units d) (s +ᶠ units d) a (ahead r d pr) (ahead s d ps) pa (same_shift r s d h) high)
+    let d = c.delta_ta in (
+      λ low. tdb_rises_low c (r +ᶠ units d) (s +ᶠ units d) a (ahead r d pr) (ahead s d ps) pa (same_shift r s d h) low,
+      λ high. tdb_rises_high c (r +ᶠ units d) (s +ᶠ units d) a (ahead r d pr) (ahead s d ps) pa (same_shift r s d h) high,
+    )
 route_rises c Tt Tai r s a pr ps pa h =
     let d = neg_ℤ c.delta_ta in
     (λ low. le_f_trans a (r +ᶠ units d) (s +ᶠ units d) (ahead r d pr).positive low (same_shift r s d h), λ high. le_f_trans (r +ᶠ units d) (s +ᶠ units d) a (ahead s d ps).positive (same_shift r s d h) high)
@@ -84,9 +85,10 @@ route_loosens c Tt Tai r a b pr pa pb h = (λ low. le_f_trans a b (r -ᶠ units 
 route_loosens c Tt Tt r a b pr pa pb h = (λ low. le_f_trans a b r pb.positive h low, λ high. le_f_trans r a b pa.positive high h)
 route_loosens c Tt Tdb r a b pr pa pb h = (λ low. tdb_loosens_low c r a b pb h low, λ high. tdb_loosens_high c r a b pa h high)
 route_loosens c Tdb Tai r a b pr pa pb h =
-    let d = c.delta_ta in
-    (λ low. tdb_rises_high c (a +ᶠ units d) (b +ᶠ units d) r (ahead a d pa) (ahead b d pb) pr (same_shift a b d h) low,
-      λ high. tdb_rises_low c (a +ᶠ units d) (b +ᶠ units d) r (ahead a d pa) (ahead b d pb) pr (same_shift a b d h) high)
+    let d = c.delta_ta in (
+      λ low. tdb_rises_high c (a +ᶠ units d) (b +ᶠ units d) r (ahead a d pa) (ahead b d pb) pr (same_shift a b d h) low,
+      λ high. tdb_rises_low c (a +ᶠ units d) (b +ᶠ units d) r (ahead a d pa) (ahead b d pb) pr (same_shift a b d h) high,
+    )
 route_loosens c Tdb Tt r a b pr pa pb h = (λ low. tdb_rises_high c a b r pa pb pr h low, λ high. tdb_rises_low c a b r pa pb pr h high)
 route_loosens c Tdb Tdb r a b pr pa pb h = (λ low. le_f_trans a b r pb.positive h low, λ high. le_f_trans r a b pa.positive high h)
 
@@ -336,12 +338,13 @@ wide_back r e low high d pr pe pl ph s some under above close =
     let j = lowered z.of_d (plus z.of_a (plus one z.of_b)) above in
     let k = lowered (number (negsuc 99) z.m) z.of_e s.low in
     let l = lowered z.of_e (number (pos 100) z.m) s.high in
-    let o = lowered z.of_d (plus z.of_c z.of_b) close in
-    (record {
+    let o = lowered z.of_d (plus z.of_c z.of_b) close in (
+      record {
         low_near = raised z.some z.of_a (plus (minus z.of_c z.of_e) (plus far z.of_b)) (omega (arith, ints, i, l));
         high_near = raised z.some (minus z.of_d z.of_e) (plus z.of_a (plus far z.of_b)) (omega (arith, ints, j, k));
       },
-      raised z.some (minus z.of_d z.of_e) (plus (minus z.of_c z.of_e) z.of_b) (omega (arith, ints, o)))
+      raised z.some (minus z.of_d z.of_e) (plus (minus z.of_c z.of_e) z.of_b) (omega (arith, ints, o)),
+    )
 
 wide_here : (r e low high : Fraction) → IsFraction r → IsFraction e → IsFraction low → IsFraction high
     → r ≤ᶠ (low +ᶠ (whole (pos 1) +ᶠ e)) → high ≤ᶠ (r +ᶠ (whole (pos 1) +ᶠ e)) → IsWide r e low high

@@ -35,9 +35,9 @@ units_low c t u p k h low =
     let v = p +ℤ (u -ℤ t) -ℤ pos k in
     tdb_moves_low c (units t) (units u) (units e) (units (pos k)) (units p) (units v) (units_are t) (units_are u) (units_are e) (units_are (pos k)) (units_are p) (units_are v)
     (record {
-        above = raised one (of_units t) (plus (of_units u) (of_units e)) (omega (arith, ints));
-        below = raised one (of_units u) (plus (of_units t) (of_units e)) (omega (arith, ints));
-      })
+      above = raised one (of_units t) (plus (of_units u) (of_units e)) (omega (arith, ints));
+      below = raised one (of_units u) (plus (of_units t) (of_units e)) (omega (arith, ints));
+    })
     (slack (unsigned_abs (u -ℤ t)) k h) (raised one (plus (of_units v) (plus (of_units t) (of_units (pos k)))) (plus (of_units p) (of_units u)) (omega (arith, ints))) low
 
 pub units_high : (c : Deltet) (t u p : ℤ) (k : ℕ) → unsigned_abs (u -ℤ t) ≤ k * 10 ^ 9 → TdbIsAtMost c (units t) (units p) → TdbIsAtMost c (units u) (units (p +ℤ (u -ℤ t) +ℤ pos k))
@@ -46,9 +46,9 @@ units_high c t u p k h high =
     let v = p +ℤ (u -ℤ t) +ℤ pos k in
     tdb_moves_high c (units t) (units u) (units e) (units (pos k)) (units p) (units v) (units_are t) (units_are u) (units_are e) (units_are (pos k)) (units_are p) (units_are v)
     (record {
-        above = raised one (of_units t) (plus (of_units u) (of_units e)) (omega (arith, ints));
-        below = raised one (of_units u) (plus (of_units t) (of_units e)) (omega (arith, ints));
-      })
+      above = raised one (of_units t) (plus (of_units u) (of_units e)) (omega (arith, ints));
+      below = raised one (of_units u) (plus (of_units t) (of_units e)) (omega (arith, ints));
+    })
     (slack (unsigned_abs (u -ℤ t)) k h) (raised one (plus (of_units p) (plus (of_units u) (of_units (pos k)))) (plus (of_units v) (of_units t)) (omega (arith, ints))) high
 
 -- TDB of t, where sin E is at least `low` units and m units at most K times as much

@@ -67,9 +67,14 @@ high_end c t n pt f = record { at_each = λ m fm. tdb_in_order c t m n pt fm f }
 -- and some two are no farther apart than d
 pub tdb_narrows : (c : Deltet) (t d : Fraction) → IsFraction t → IsFraction d → whole (pos 0) <ᶠ d → (n : ℕ) × (Fits c t n × (tdb_high c t n ≤ᶠ (tdb_low c t n +ᶠ d)))
 tdb_narrows c t d pt pd some =
-    let s = sine_narrows c t d pt pd some in
-    (s.0, (s.1.0, go t (sine_high c t s.0) (sine_low c t s.0) d c.k pt.positive (sine_high-den c t s.0 pt) (sine_low-den c t s.0 pt) pd.positive c.k_low c.k_high
-      (le_of_lt_f (whole (pos 0)) d some) s.1.1))
+    let s = sine_narrows c t d pt pd some in (
+      s.0,
+      (
+        s.1.0,
+        go t (sine_high c t s.0) (sine_low c t s.0) d c.k pt.positive (sine_high-den c t s.0 pt) (sine_low-den c t s.0 pt) pd.positive c.k_low c.k_high
+            (le_of_lt_f (whole (pos 0)) d some) s.1.1,
+      ),
+    )
   where
     join : (t h l d k w : ℤ) → (h *ℤ k) ≤ℤ ((l +ℤ d) *ℤ k) → (k *ℤ d) ≤ℤ (w *ℤ d) → (t *ℤ w +ℤ h *ℤ k) ≤ℤ (t *ℤ w +ℤ l *ℤ k +ℤ d *ℤ w)
     join t h l d k w one two = simp ring (let i = simp ring at one in let j = simp ring at two in omega (arith, lin))

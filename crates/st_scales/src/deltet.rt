@@ -85,3 +85,118 @@ impl Deltet {
         self.orbit
     }
 }
+
+#[cfg(test)]
+mod tests {
+    use super::*;
+
+    fn dec(digits: i128, tens: i32) -> Dec {
+        Dec { digits, tens }
+    }
+
+    const DELTA_TA: (i128, i32) = (32_184, -3);
+
+    const K: (i128, i32) = (1657, -6);
+
+    const EB: (i128, i32) = (1671, -5);
+
+    const M0: (i128, i32) = (6_239_996, -6);
+
+    const M1: (i128, i32) = (199_096_871, -15);
+
+    fn read(numbers: [(i128, i32); 5]) -> Result<Deltet, DeltetFault> {
+        let [a, k, e, m, n] = numbers;
+        Deltet::from_numbers(
+            &[dec(a.0, a.1)],
+            &[dec(k.0, k.1)],
+            &[dec(e.0, e.1)],
+            &[dec(m.0, m.1), dec(n.0, n.1)],
+        )
+    }
+
+    #[test]
+    fn reads_constants(rt: HostRuntime) {
+        let found = read([DELTA_TA, K, EB, M0, M1]);
+        let wanted = Deltet {
+            delta_ta: 32_184_000_000_000_000_000,
+            k: 1_657_000_000_000_000,
+            orbit: Orbit {
+                eb: 16_710_000_000_000_000,
+                m0: 6_239_996_000_000_000_000,
+                m1: 199_096_871_000,
+            },
+        };
+        assert_eq!(rt; found, Ok(wanted));
+        assert_eq!(rt; wanted.delta_ta(), 32_184_000_000_000_000_000);
+        assert_eq!(rt; wanted.k(), 1_657_000_000_000_000);
+        assert_eq!(rt; wanted.orbit().m1, 199_096_871_000);
+    }
+
+    #[test]
+    fn tells_the_first_fault(rt: HostRuntime) {
+        let rows = [
+            (
+                [(1, 30), (1, -19), EB, M0, M1],
+                DeltetFault::Range(DeltetVar::DeltaTa),
+            ),
+            (
+                [(-1, 30), K, EB, M0, M1],
+                DeltetFault::Range(DeltetVar::DeltaTa),
+            ),
+            (
+                [(1, -19), (1, 30), EB, M0, M1],
+                DeltetFault::NotUnits(DeltetVar::DeltaTa),
+            ),
+            (
+                [DELTA_TA, (-1, -18), EB, M0, M1],
+                DeltetFault::Range(DeltetVar::K),
+            ),
+            (
+                [DELTA_TA, (2_000_000_000_000_001, -18), (1, -20), M0, M1],
+                DeltetFault::Range(DeltetVar::K),
+            ),
+            (
+                [DELTA_TA, K, (1, -20), M0, M1],
+                DeltetFault::NotUnits(DeltetVar::Eb),
+            ),
+            (
+                [DELTA_TA, K, (21, -3), M0, M1],
+                DeltetFault::Range(DeltetVar::Eb),
+            ),
+            (
+                [DELTA_TA, K, EB, (11, 0), (1, -19)],
+                DeltetFault::NotUnits(DeltetVar::M1),
+            ),
+            (
+                [DELTA_TA, K, EB, (11, 0), (1, 0)],
+                DeltetFault::Range(DeltetVar::M0),
+            ),
+            (
+                [DELTA_TA, K, EB, M0, (401, -9)],
+                DeltetFault::Range(DeltetVar::M1),
+            ),
+        ];
+        for (numbers, fault) in rows {
+            assert_eq!(rt; read(numbers), Err(fault));
+        }
+        let one = [dec(1, -18)];
+        let two = [dec(1, -18), dec(2, -18)];
+        let count = |variable| Err(DeltetFault::Count(variable));
+        assert_eq!(rt;
+            Deltet::from_numbers(&[], &[], &one, &two),
+            count(DeltetVar::DeltaTa)
+        );
+        assert_eq!(rt;
+            Deltet::from_numbers(&one, &two, &one, &two),
+            count(DeltetVar::K)
+        );
+        assert_eq!(rt;
+            Deltet::from_numbers(&one, &one, &[], &two),
+            count(DeltetVar::Eb)
+        );
+        assert_eq!(rt;
+            Deltet::from_numbers(&one, &one, &one, &one),
+            count(DeltetVar::M)
+        );
+    }
+}

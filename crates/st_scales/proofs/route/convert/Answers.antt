@@ -34,8 +34,8 @@ returns-in-Tai-Tdb-clause-exact c =
     let p = simp to_z-of_z at c.point-in-Tai-Tdb.ensures.low in
     let q = simp to_z-of_z at c.point-in-Tai-Tdb.ensures.high in
     rw (c.in-Tai-Tdb.is-0, c.in-Tai-Tdb.is-1) (λ h. crossing h (λ k.
-        let e = c.tdb_of.ensures.exact k in
-        (omega (arith, ints, e.0, p, c.add-in-Tai-Tdb.ensures.low, c.delta_ta-in-Tai-Tdb.ensures), omega (arith, ints, e.1, q, c.add-in-Tai-Tdb.ensures.high, c.delta_ta-in-Tai-Tdb.ensures))))
+    let e = c.tdb_of.ensures.exact k in
+    (omega (arith, ints, e.0, p, c.add-in-Tai-Tdb.ensures.low, c.delta_ta-in-Tai-Tdb.ensures), omega (arith, ints, e.1, q, c.add-in-Tai-Tdb.ensures.high, c.delta_ta-in-Tai-Tdb.ensures))))
 
 pub returns-in-Tai-Tdb-clause-narrow : goal.returns-in-Tai-Tdb-clause-narrow
 returns-in-Tai-Tdb-clause-narrow c =
@@ -92,8 +92,8 @@ returns-in-Tdb-Tai-clause-exact c =
     let p = simp to_z-of_z at c.point-in-Tdb-Tai.ensures.low in
     let q = simp to_z-of_z at c.point-in-Tdb-Tai.ensures.high in
     rw (c.in-Tdb-Tai.is-0, c.in-Tdb-Tai.is-1) (λ h. crossing h (λ k.
-        let e = c.tt_of.ensures.exact k in
-        (omega (arith, ints, e.0, q, c.sub-in-Tdb-Tai.ensures.low, c.delta_ta-in-Tdb-Tai.ensures), omega (arith, ints, e.1, p, c.sub-in-Tdb-Tai.ensures.high, c.delta_ta-in-Tdb-Tai.ensures))))
+    let e = c.tt_of.ensures.exact k in
+    (omega (arith, ints, e.0, q, c.sub-in-Tdb-Tai.ensures.low, c.delta_ta-in-Tdb-Tai.ensures), omega (arith, ints, e.1, p, c.sub-in-Tdb-Tai.ensures.high, c.delta_ta-in-Tdb-Tai.ensures))))
 
 pub returns-in-Tdb-Tai-clause-narrow : goal.returns-in-Tdb-Tai-clause-narrow
 returns-in-Tdb-Tai-clause-narrow c =
