@@ -12,7 +12,7 @@ use Rattle.st_text.specs.Bytes.{is_blank, are_blanks}
 use Rattle.st_text.specs.Lines.{skip_blanks}
 use Rattle.st_batch.specs.Commands.{IsFileName, NamesFile, IsLoad, IsUnload, begins_command}
 use Rattle.st_batch.specs.declared.command.TheConstants.{MAX_NAME}
-use Rattle.st_batch.proofs.Tests.{and-left, and-right}
+use Rattle.st_text.proofs.Logic.{and-left, and-right}
 
 or-left : (a b : Bool) → (a || b) ≡ false → a ≡ false
 or-left true b e = absurd cc

@@ -5,7 +5,7 @@ use Rattle.std.proofs.lemmas.List.{append-nil}
 use Rattle.st_decimal.specs.declared.number.Dec.{Dec}
 use Rattle.st_batch.specs.LeapTable.{IsPair, PairUp}
 use Rattle.st_batch.specs.declared.leap_seconds.LeapPair.{LeapPair}
-use Rattle.st_batch.proofs.ScanLaws.{some-same}
+use Rattle.std.proofs.lemmas.Option.{same_Some}
 
 abbrev pub Joins : List Dec → List Dec → List LeapPair → Type 0
 Joins numbers left pairs = (more : List LeapPair) → PairUp left more → PairUp numbers (pairs ++ more)
@@ -29,7 +29,7 @@ splits-step numbers left rest pairs c d p e only splits = λ whole up.
     by : {whole : List LeapPair} (more : List LeapPair) → PairUp (c ∷ d ∷ rest) more → whole ≡ pairs ++ more → (m : List LeapPair) × PairUp rest m × (whole ≡ (pairs ++ p ∷ []) ++ m)
     by [] up same = absurd up
     by (q ∷ more) up same =
-        let first : p ≡ q = some-same p q (only q up.0) in
+        let first : p ≡ q = same_Some p q (only q up.0) in
         (more, up.1, same ∙ ap (λ (x : LeapPair). pairs ++ x ∷ more) (sym first) ∙ sym (append_assoc pairs (p ∷ []) more))
 
 -- no pair, no pairs

@@ -21,7 +21,7 @@ use Rattle.st_batch.specs.NumbersMachine.{numbers_in, are_numbers}
 use Rattle.st_pool.specs.Variable.{loaded_values}
 use Rattle.st_pool.specs.declared.kernel.Kernel.{Kernel}
 use Rattle.st_batch.proofs.Decimals.{one-units, one-count}
-use Rattle.st_batch.proofs.Tests.{and-left, and-right}
+use Rattle.st_text.proofs.Logic.{and-left, and-right}
 
 -- a multiple of a number leaves no rest
 no-rest : (k : ℤ) (d : ℕ) → 0 < d → int_rem_euclid (k *ℤ pos d) (pos d) ≡ pos 0

@@ -11,9 +11,10 @@ use Rattle.st_dates.proofs.CalendarLaws.{there, there_only}
 use Rattle.st_text.specs.Bytes.{number_of}
 use Rattle.st_batch.specs.declared.utc_time.Fields.{Fields}
 use Rattle.st_batch.specs.UtcTime.{TimeParts, Names, IsUtcTime}
-use Rattle.st_batch.specs.UtcTimeMachine.{fields_of_text, are_of_day, is_in_range, label_of_fields, utc_of_text}
-use Rattle.st_batch.proofs.Tests.{and-left, and-right, tested, passed}
-use Rattle.st_batch.proofs.ScanLaws.{and_then-some, some-same}
+use Rattle.st_dates.specs.AtDateMachine.{is_in_range}
+use Rattle.st_batch.specs.UtcTimeMachine.{fields_of_text, are_of_day, label_of_fields, utc_of_text}
+use Rattle.std.proofs.lemmas.Option.{same_Some}
+use Rattle.st_text.proofs.Logic.{and-left, and-right, bound, tested, passed}
 use Rattle.st_batch.proofs.UtcFields.{fields_of, fields-spelled, fields-read}
 
 -- what the parts name is found
@@ -25,23 +26,23 @@ unfolding utc_of_text
 only text label (p, h, e, n) =
     let at = found p label n in
     let hours : are_of_day (fields_of p) ≡ true = grind (arith, nat_tests, n.hour, n.minute, n.second) in
-    let range : is_in_range (label_of_fields (fields_of p) (day_number (number_of p.year) (number_of p.month) (number_of p.day))) ≡ true =
-    ap is_in_range at ∙ tested FIRST LAST (formal label) n.from n.to in
+    let range : is_in_range (formal (label_of_fields (fields_of p) (day_number (number_of p.year) (number_of p.month) (number_of p.day)))) ≡ true =
+    ap (λ (l : Label). is_in_range (formal l)) at ∙ tested FIRST LAST (formal label) n.range.0 n.range.1 in
     rw e (rw (fields-spelled p h) (rw (there _ _ _ n.exists) (rw (hours, range) (ap Some at))))
 
 -- fields that make a label on a day
 record Make (f : Fields) (day : ℤ) (label : Label) : Type 0 where
   exists : IsCalendarDay f.year f.month f.day
   number : day ≡ day_number f.year f.month f.day
-  tests : (are_of_day f && is_in_range (label_of_fields f day)) ≡ true
+  tests : (are_of_day f && is_in_range (formal (label_of_fields f day))) ≡ true
   same : label_of_fields f day ≡ label
 
 -- parts whose numbers make a label name it
 named : (p : TimeParts) (day : ℤ) (label : Label) → Make (fields_of p) day label → Names p label
 named p day label m =
     let of_day = are_of_day (fields_of p) in
-    let made = is_in_range (label_of_fields (fields_of p) day) in
-    let within : is_in_range label ≡ true = sym (ap is_in_range m.same) ∙ and-right of_day made m.tests in
+    let made = is_in_range (formal (label_of_fields (fields_of p) day)) in
+    let within : is_in_range (formal label) ≡ true = sym (ap (λ (l : Label). is_in_range (formal l)) m.same) ∙ and-right of_day made m.tests in
     let hours = and-left of_day made m.tests in
     let range = passed FIRST LAST (formal label) within in
     record {
@@ -51,20 +52,19 @@ named p day label m =
       second = grind (arith, nat_tests);
       day = sym (ap (λ (l : Label). l.day) m.same) ∙ m.number;
       of_day = sym (ap (λ (l : Label). l.of_day) m.same);
-      from = range.0;
-      to = range.1;
+      range = range;
     }
 
 pub reads : (text : List ℕ) (label : Label) → utc_of_text text ≡ Some label → IsUtcTime text label
 unfolding utc_of_text
 reads text label e =
-    let a = and_then-some _ (fields_of_text text) label e in
-    let b = and_then-some _ (calendar_day a.0.year a.0.month a.0.day) label a.2 in
+    let a = bound (fields_of_text text) _ label e in
+    let b = bound (calendar_day a.0.year a.0.month a.0.day) _ label a.2 in
     let f = fields-read text a.0 a.1 in
     let d = there_only a.0.year a.0.month a.0.day b.0 b.1 in
-    elim (cases_Bool (are_of_day a.0 && is_in_range (label_of_fields a.0 b.0))) [
+    elim (cases_Bool (are_of_day a.0 && is_in_range (formal (label_of_fields a.0 b.0)))) [
       | inl y ↦
-          let made : Make a.0 b.0 label = record { exists = d.0; number = d.1; tests = y; same = some-same _ label (rw y at b.2) } in
+          let made : Make a.0 b.0 label = record { exists = d.0; number = d.1; tests = y; same = same_Some _ label (rw y at b.2) } in
           let P : Fields → Type 0 = λ g. Make g b.0 label in
           (f.0, f.1, f.2, named f.0 b.0 label (subst P f.3 made))
       | inr n ↦ let v = rw n at b.2 in absurd cc

@@ -11,8 +11,8 @@ use Rattle.st_batch.specs.declared.fault.WordFault.TheVariants.{NotBuilt, OutOfM
 use Rattle.st_batch.specs.declared.job.Job.{Job}
 use Rattle.st_batch.specs.declared.job.Work.{Work}
 use Rattle.st_batch.specs.declared.job.Work.TheVariants.{Time, Batch}
-use Rattle.st_batch.proofs.ScanLaws.{some-same}
-use Rattle.st_batch.proofs.Tests.{and-left, and-right}
+use Rattle.std.proofs.lemmas.Option.{same_Some}
+use Rattle.st_text.proofs.Logic.{and-left, and-right}
 
 name-fits : (name : List ℕ) → 1 ≤ length name → length name ≤ 255 → is_name name ≡ true
 name-fits name low high = grind (arith, nat_tests)
@@ -103,7 +103,7 @@ pub reads : (words : List (List ℕ)) (name : List ℕ) (time : Option (List ℕ
 reads (a ∷ setup ∷ b ∷ from ∷ c ∷ to ∷ d ∷ []) name time e =
     elim (cases_Bool (((are_options a b c && are_systems from to) && is_name setup) && bytes_eq d (codes "-batch"))) [
       | inl y ↦
-          let pair = some-same (setup, None) (name, time) (rw y at e) in
+          let pair = same_Some (setup, None) (name, time) (rw y at e) in
           let P : List ℕ × Option (List ℕ) → Type 0 = λ p. AskFor (a ∷ setup ∷ b ∷ from ∷ c ∷ to ∷ d ∷ []) (job_of p.0 p.1) in
           subst P pair (batch-asked a setup b from c to d y)
       | inr n ↦ let v = rw n at e in absurd cc
@@ -111,7 +111,7 @@ reads (a ∷ setup ∷ b ∷ from ∷ c ∷ to ∷ d ∷ []) name time e =
 reads (a ∷ setup ∷ b ∷ from ∷ c ∷ to ∷ d ∷ text ∷ []) name time e =
     elim (cases_Bool (((are_options a b c && are_systems from to) && is_name setup) && bytes_eq d (codes "-time"))) [
       | inl y ↦
-          let pair = some-same (setup, Some text) (name, time) (rw y at e) in
+          let pair = same_Some (setup, Some text) (name, time) (rw y at e) in
           let P : List ℕ × Option (List ℕ) → Type 0 = λ p. AskFor (a ∷ setup ∷ b ∷ from ∷ c ∷ to ∷ d ∷ text ∷ []) (job_of p.0 p.1) in
           subst P pair (time-asked a setup b from c to d text y)
       | inr n ↦ let v = rw n at e in absurd cc
@@ -131,7 +131,7 @@ reads-job words name time job e setup work =
 -- words ask for one job
 pub one-job : (words : List (List ℕ)) (a b : Job) → AskFor words a → AskFor words b → a ≡ b
 one-job words a b h k =
-    let pair = some-same (a.setup, time_of a.work) (b.setup, time_of b.work) (sym (only words a h) ∙ only words b k) in
+    let pair = same_Some (a.setup, time_of a.work) (b.setup, time_of b.work) (sym (only words a h) ∙ only words b k) in
     let setup : a.setup ≡ b.setup = ap (λ (p : List ℕ × Option (List ℕ)). p.0) pair in
     let time = ap (λ (p : List ℕ × Option (List ℕ)). p.1) pair in
     let work : a.work ≡ b.work = sym (work_of-time_of a.work) ∙ ap work_of time ∙ work_of-time_of b.work in

@@ -10,7 +10,6 @@ pub mod LoadSteps
 pub mod NumbersMachine
 pub mod Outcome
 pub mod OutputSteps
-pub mod ScanMachine
 pub mod Seconds
 pub mod Session
 pub mod Setting

@@ -1,28 +1,22 @@
 -- The reading of a UTC time from left to right, as the code does it.
-use Rattle.std.specs.Prelude.{ℕ, ◌+◌, ◌-◌, ◌*◌, ◌^◌, ◌<◌, ℤ, pos, int_le, nat_le, Bool, ◌&&◌, ◌==◌, Option, Some, None, option_and_then, if◌then◌else◌, List, [], ◌∷◌, length}
-use Rattle.st_text.specs.Bytes.{are_digits, number_of}
+use Rattle.std.specs.Prelude.{ℕ, ◌+◌, ◌*◌, ◌^◌, ◌<◌, ℤ, pos, nat_le, Bool, ◌&&◌, Option, Some, None, if◌then◌else◌, List}
+use Rattle.st_text.specs.Bytes.{number_of}
+use Rattle.st_text.specs.Scan.{◌>>=◌, after, is_digit_run, leading_digits, past_digits}
+use Rattle.st_dates.specs.AtDateMachine.{is_in_range}
 use Rattle.st_dates.specs.CalendarMachine.{calendar_day}
 use Rattle.st_dates.specs.Label.{formal}
+use Rattle.st_dates.specs.TimeTextMachine.{decimal_units}
 use Rattle.st_dates.specs.declared.label.Label.{Label}
-use Rattle.st_dates.specs.declared.label.TheConstants.{FIRST, LAST}
 use Rattle.st_batch.specs.declared.utc_time.Fields.{Fields}
-use Rattle.st_batch.specs.ScanMachine.{digits_of_text, field_of_text}
 
--- 1 to 12 decimals as units of 10^-18 s
-unfoldable pub scaled_of_text : List ℕ → Option ℕ
-scaled_of_text decimals =
-    if (nat_le 1 (length decimals) && nat_le (length decimals) 12) && are_digits decimals
-    then Some (number_of decimals * 10 ^ (18 - length decimals))
-    else None
+-- the number of the first digits, which are so many, and the text behind them
+unfoldable pub number_of_text : List ℕ → ℕ → Option (ℕ × List ℕ)
+number_of_text text width =
+    if is_digit_run width width (leading_digits text) then Some (number_of (leading_digits text), past_digits text) else None
 
--- the decimals behind a point as units of 10^-18 s; no text is 0
-abbrev pub fraction_of_text : List ℕ → Option ℕ
-fraction_of_text [] = Some 0
-fraction_of_text (b ∷ decimals) = if b == 46 then scaled_of_text decimals else None
-
-infixl 10 ◌>>=◌
-abbrev pub ◌>>=◌ : {A B : Type 0} → Option A → (A → Option B) → Option B
-o >>= f = option_and_then f o
+-- digits with a mark behind them
+unfoldable pub field_of_text : List ℕ → ℕ → ℕ → Option (ℕ × List ℕ)
+field_of_text text width mark = number_of_text text width >>= λ p. after mark p.1 >>= λ rest. Some (p.0, rest)
 
 -- the numbers of `YYYY-MM-DDTHH:MM:SS` and its decimals; 45 is `-`, 84 `T`, 58 `:`
 unfoldable pub fields_of_text : List ℕ → Option Fields
@@ -32,8 +26,8 @@ fields_of_text text = do
   day ← field_of_text month.1 2 84
   hour ← field_of_text day.1 2 58
   minute ← field_of_text hour.1 2 58
-  second ← digits_of_text minute.1 2
-  fraction ← fraction_of_text second.1
+  second ← number_of_text minute.1 2
+  fraction ← decimal_units second.1
   Some (record { year = year.0; month = month.0; day = day.0; hour = hour.0; minute = minute.0; second = second.0; fraction = fraction })
 
 -- each number is as small as its digits allow
@@ -54,10 +48,6 @@ units_of_fields f = ((f.hour * 60 + f.minute) * 60 + f.second) * 10 ^ 18 + f.fra
 abbrev pub are_of_day : Fields → Bool
 are_of_day f = (nat_le f.hour 23 && nat_le f.minute 59) && nat_le f.second 59
 
--- whether the label's formal value is in the range that is taken
-abbrev pub is_in_range : Label → Bool
-is_in_range label = int_le FIRST (formal label) && int_le (formal label) LAST
-
 -- the label of the fields on a day
 abbrev pub label_of_fields : Fields → ℤ → Label
 label_of_fields f day = record { day = day; of_day = pos (units_of_fields f) }
@@ -67,4 +57,4 @@ unfoldable pub utc_of_text : List ℕ → Option Label
 utc_of_text text = do
   f ← fields_of_text text
   day ← calendar_day f.year f.month f.day
-  (if are_of_day f && is_in_range (label_of_fields f day) then Some (label_of_fields f day) else None)
+  (if are_of_day f && is_in_range (formal (label_of_fields f day)) then Some (label_of_fields f day) else None)

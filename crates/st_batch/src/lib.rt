@@ -16,7 +16,6 @@ pub mod laws;
 mod leap_seconds;
 mod leap_table;
 mod load;
-mod scan;
 mod session;
 mod status;
 mod top;

@@ -1,21 +1,15 @@
 //! UTC times as text: `YYYY-MM-DDTHH:MM:SS`, with a point and 1 to 12 decimals where they are wanted.
 
-ghost use Rattle.std.specs.Prelude.{◌≡◌, ◌<◌, ◌^◌, ◌≤ℤ◌, ◌<ℤ◌, pos, IfSome, IsTrue, MatchOption};
-ghost use Rattle.st_batch.specs.UtcTimeMachine.{fraction_of_text, scaled_of_text, fields_of_text, AreBelow};
+ghost use Rattle.std.specs.Prelude.{◌≡◌, ◌<◌, ◌≤◌, ◌^◌, pos, IfSome, IsTrue, MatchOption, Some, None};
 ghost use Rattle.st_batch.specs.UtcTimeMachine as machine;
+ghost use Rattle.st_batch.specs.UtcTimeMachine.{fields_of_text, field_of_text, number_of_text, AreBelow};
 ghost use Rattle.st_batch.specs.UtcTimeMachine.{units_of_fields, utc_of_text};
 ghost use Rattle.st_batch.specs.UtcTime.{IsUtcTime};
 ghost use Rattle.st_dates.specs.Label.{IsPlainLabel};
 ghost use Rattle.st_dates.specs.declared.label.Label.{Label};
 
-use crate::scan::{digits, field};
-use st_dates::{FIRST, LAST, Label, SECOND, day_of, formal_of};
-use st_text::{are_digits, read_digits};
-
-/// 1900-01-01 and 2100-01-01, in days past 2000-01-01.
-const FIRST_DAY: i32 = -36_524;
-
-const LAST_DAY: i32 = 36_525;
+use st_dates::{Label, SECOND, day_of, is_in_range, read_decimals};
+use st_text::{after, is_digit_run, read_digits, split_digits};
 
 /// The numbers that stand in a time's text; the fraction in units of 10^-18 s.
 #[derive(Clone, Copy)]
@@ -29,28 +23,31 @@ pub struct Fields {
     pub fraction: u64,
 }
 
-/// The decimals behind a point as units of 10^-18 s; no text stands for 0.
-fn fraction(text: &[u8]) -> Option<u64>
-    ensures value { result ≡ fraction_of_text text.now }
-    ensures below { IfSome result (λ n. n < 10 ^ 18) }
+/// The number of the digits with which a text begins, which are so many, and the text behind them.
+#[tactic(auto, unfolding(crate::specs::UtcTimeMachine::number_of_text))]
+fn number(text: &[u8], width: usize) -> Option<(u64, &[u8])>
+    requires { width ≤ 4 }
+    ensures value { MatchOption result (number_of_text text.now width ≡ None)
+        (λ p. number_of_text text.now width ≡ Some (p.0, p.1.now)) }
+    ensures below { IfSome result (λ p. p.0 < 10 ^ width) }
 {
-    match text {
-        [] => Some(0),
-        [b'.', decimals @ ..] => scaled(decimals),
-        _ => None,
-    }
-}
-
-/// 1 to 12 decimals as units of 10^-18 s.
-#[tactic(auto, unfolding(crate::specs::UtcTimeMachine::scaled_of_text))]
-fn scaled(decimals: &[u8]) -> Option<u64>
-    ensures value { result ≡ scaled_of_text decimals.now }
-    ensures below { IfSome result (λ n. n < 10 ^ 18) }
-{
-    if decimals.is_empty() || decimals.len() > 12 || !are_digits(decimals) {
+    let (digits, rest) = split_digits(text);
+    if !is_digit_run(digits, width, width) {
         return None;
     }
-    Some(read_digits(decimals) * 10u64.pow(18 - decimals.len() as u32))
+    Some((read_digits(digits), rest))
+}
+
+/// The same number, and the text behind the mark that follows its digits.
+#[tactic(auto, unfolding(crate::specs::UtcTimeMachine::field_of_text))]
+fn field(text: &[u8], width: usize, mark: u8) -> Option<(u64, &[u8])>
+    requires { width ≤ 4 }
+    ensures value { MatchOption result (field_of_text text.now width mark ≡ None)
+        (λ p. field_of_text text.now width mark ≡ Some (p.0, p.1.now)) }
+    ensures below { IfSome result (λ p. p.0 < 10 ^ width) }
+{
+    let (number, rest) = number(text, width)?;
+    Some((number, after(rest, mark)?))
 }
 
 /// The numbers of `YYYY-MM-DDTHH:MM:SS` and its decimals.
@@ -64,8 +61,8 @@ fn read_fields(text: &[u8]) -> Option<Fields>
     let (day, text) = field(text, 2, b'T')?;
     let (hour, text) = field(text, 2, b':')?;
     let (minute, text) = field(text, 2, b':')?;
-    let (second, text) = digits(text, 2)?;
-    let fraction = fraction(text)?;
+    let (second, text) = number(text, 2)?;
+    let fraction = read_decimals(text)?;
     Some(Fields {
         year,
         month,
@@ -119,17 +116,4 @@ fn units_of_day(fields: Fields) -> i128
 {
     let seconds = (fields.hour * 60 + fields.minute) * 60 + fields.second;
     i128::from(seconds) * SECOND + i128::from(fields.fraction)
-}
-
-/// Whether the label's formal value is from 1900-01-01 to 2100-01-01.
-fn is_in_range(label: Label) -> bool
-    requires from { pos 0 ≤ℤ label.of_day }
-    requires to { label.of_day <ℤ pos 86_400_000_000_000_000_000_000 }
-    ensures { result ≡ machine.is_in_range label }
-{
-    if label.day < FIRST_DAY || label.day > LAST_DAY {
-        return false;
-    }
-    let formal = formal_of(label);
-    FIRST <= formal && formal <= LAST
 }
