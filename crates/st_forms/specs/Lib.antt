@@ -1,0 +1,10 @@
+pub mod DateForm
+pub mod DateMachine
+pub mod NumberForm
+pub mod NumberMachine
+pub mod Reading
+pub mod ReadingMachine
+pub mod Scale
+pub mod TailMachine
+pub mod TimeForm
+pub mod WordMachine
