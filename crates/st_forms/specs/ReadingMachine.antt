@@ -1,9 +1,9 @@
 -- How a time is read: by its form, then its system, its day and the range.
-use Rattle.std.specs.Prelude.{ℕ, ◌^◌, ◌*◌, Bool, true, false, not, ◌&&◌, ◌==◌, nat_le, List, [], ◌∷◌, codes, ℤ, pos, Option, Some, None, Result, Ok, Err, if◌then◌else◌}
+use Rattle.std.specs.Prelude.{ℕ, ◌^◌, ◌*◌, ◌<◌, Bool, true, false, not, ◌&&◌, ◌||◌, ◌==◌, nat_le, List, [], ◌∷◌, codes, ℤ, pos, Option, Some, None, Result, Ok, Err, if◌then◌else◌}
 use Rattle.st_text.specs.Lines.{trimmed}
 use Rattle.st_text.specs.Scan.{◌>>=◌}
 use Rattle.st_dates.specs.AtDateMachine.{is_in_range}
-use Rattle.st_dates.specs.DayTextMachine.{number_in}
+use Rattle.st_dates.specs.DayTextMachine.{number_in, HasFourDigits}
 use Rattle.st_dates.specs.Label.{formal}
 use Rattle.st_dates.specs.TimeTextMachine.{day_units}
 use Rattle.st_dates.specs.declared.clock.TimeOfDay.{TimeOfDay}
@@ -46,6 +46,12 @@ julian_of_text text =
 
 unfoldable pub dated_of_text : List ℕ → Option Reading
 dated_of_text text = date_of_text text >>= λ d. tail_of_text d.1 >>= λ t. Some (Dated d.0 t.0 t.1)
+
+-- the year of what was read was written by four digits, and its time is one of a day
+abbrev pub IsSmall : Reading → Type 0
+IsSmall (Dated date time scale) = HasFourDigits date × (time.minute < 1440) × (time.units < 61 * 10 ^ 18)
+IsSmall (Julian instant scale) = Unit {0}
+IsSmall (Plain instant) = Unit {0}
 
 -- what a text is read as
 unfoldable pub reading_of : List ℕ → Option Reading

@@ -2,7 +2,7 @@
 
 ghost use Rattle.std.specs.Prelude.{◌≡◌, IfSome};
 ghost use Rattle.st_forms.specs.ReadingMachine as machine;
-ghost use Rattle.st_forms.specs.ReadingMachine.{scale_of};
+ghost use Rattle.st_forms.specs.ReadingMachine.{scale_of, IsSmall};
 
 use crate::Form;
 use crate::date::read_date;
@@ -56,7 +56,8 @@ pub(crate) fn scale(reading: Reading) -> Option<System>
 /// What a text spells, where it has a form of a time.
 #[tactic(auto, unfolding(crate::specs::ReadingMachine::reading_of))]
 pub(crate) fn find_reading(text: &[u8]) -> Option<Reading>
-    ensures { result ≡ machine.reading_of text.now }
+    ensures value { result ≡ machine.reading_of text.now }
+    ensures small { IfSome result IsSmall }
 {
     read_seconds(text).or(read_julian(text)).or(read_dated(text))
 }
@@ -64,7 +65,8 @@ pub(crate) fn find_reading(text: &[u8]) -> Option<Reading>
 /// Plain seconds: a sign or none, and a decimal.
 #[tactic(auto, unfolding(crate::specs::ReadingMachine::seconds_of_text, crate::specs::ReadingMachine::past_sign))]
 fn read_seconds(text: &[u8]) -> Option<Reading>
-    ensures { result ≡ machine.seconds_of_text text.now }
+    ensures value { result ≡ machine.seconds_of_text text.now }
+    ensures small { IfSome result IsSmall }
 {
     let instant = match text {
         [b'-', rest @ ..] => -(read_number(rest)? as i128),
@@ -77,7 +79,8 @@ fn read_seconds(text: &[u8]) -> Option<Reading>
 /// A Julian date: `JD`, blanks, a decimal, and a word that names a system where there is one.
 #[tactic(auto, unfolding(crate::specs::ReadingMachine::julian_of_text))]
 fn read_julian(text: &[u8]) -> Option<Reading>
-    ensures { result ≡ machine.julian_of_text text.now }
+    ensures value { result ≡ machine.julian_of_text text.now }
+    ensures small { IfSome result IsSmall }
 {
     let (mark, rest) = split_word(text);
     if !mark.eq_ignore_ascii_case(b"JD") {
@@ -89,7 +92,8 @@ fn read_julian(text: &[u8]) -> Option<Reading>
 /// The days of a Julian date, and the word behind them.
 #[tactic(auto, unfolding(crate::specs::ReadingMachine::julian_days))]
 fn read_days(text: &[u8]) -> Option<Reading>
-    ensures { result ≡ machine.julian_days text.now }
+    ensures value { result ≡ machine.julian_days text.now }
+    ensures small { IfSome result IsSmall }
 {
     let (days, rest) = split_word(text);
     let instant = (read_number(days)? as i128 - J2000) * 86_400;
@@ -102,7 +106,8 @@ fn read_days(text: &[u8]) -> Option<Reading>
 /// A calendar date, and what follows it.
 #[tactic(auto, unfolding(crate::specs::ReadingMachine::dated_of_text))]
 fn read_dated(text: &[u8]) -> Option<Reading>
-    ensures { result ≡ machine.dated_of_text text.now }
+    ensures value { result ≡ machine.dated_of_text text.now }
+    ensures small { IfSome result IsSmall }
 {
     let (date, rest) = read_date(text)?;
     let (time, scale) = read_tail(rest)?;

@@ -1,9 +1,10 @@
 //! The label or the instant of a time text.
 
-ghost use Rattle.std.specs.Prelude.{◌≡◌, ◌≢◌, Result};
+ghost use Rattle.std.specs.Prelude.{◌≡◌, ◌≢◌, ◌<◌, ◌*◌, ◌^◌, Result};
+ghost use Rattle.st_dates.specs.DayTextMachine.{number_in, HasFourDigits};
 ghost use Rattle.st_forms.specs.Reading.{ReadsTime};
 ghost use Rattle.st_forms.specs.ReadingMachine as machine;
-ghost use Rattle.st_forms.specs.ReadingMachine.{time_of_text};
+ghost use Rattle.st_forms.specs.ReadingMachine.{time_of_text, IsSmall};
 ghost use Rattle.st_forms.specs.declared.fault.FormFault.{FormFault as Fault};
 ghost use Rattle.st_forms.specs.declared.time.TimeText.{TimeText as Time};
 
@@ -68,6 +69,7 @@ fn find_time(text: &[u8], system: System, form: Form) -> Result<TimeText, FormFa
 
 /// The answer to what was read.
 fn answer(reading: Reading, system: System) -> Result<TimeText, FormFault>
+    requires { IsSmall reading }
     ensures { result ≡ machine.checked system reading }
 {
     if names_other(scale(reading), system) {
@@ -75,7 +77,8 @@ fn answer(reading: Reading, system: System) -> Result<TimeText, FormFault>
     }
     match reading {
         Reading::Dated { date, time, .. } => label(date, time),
-        Reading::Julian { instant, .. } | Reading::Plain { instant } => ranged(instant),
+        Reading::Julian { instant, .. } => ranged(instant),
+        Reading::Plain { instant } => ranged(instant),
     }
 }
 
@@ -91,6 +94,9 @@ fn names_other(scale: Option<System>, system: System) -> bool
 
 /// The label of a date and a time of day.
 fn label(date: CalendarDate, time: TimeOfDay) -> Result<TimeText, FormFault>
+    requires year { HasFourDigits date }
+    requires minute { time.minute < 1440 }
+    requires units { time.units < 61 * 10 ^ 18 }
     ensures { result ≡ machine.on_day time (number_in date) }
 {
     let Some(day) = date.day() else {

@@ -23,7 +23,7 @@ pub(crate) fn read_run(text: &[u8], low: usize, high: usize) -> Option<(u32, &[u
 }
 
 /// The word with which a text begins, up to its first blank, and the rest.
-#[tactic(auto, using(crate::proofs::Words::cut))]
+#[tactic(auto, using(crate::proofs::Cutting::cut))]
 pub(crate) fn split_word(text: &[u8]) -> (&[u8], &[u8])
     ensures word { result.0.now ≡ word text.now }
     ensures rest { result.1.now ≡ past_word text.now }
