@@ -1,1 +1,6 @@
+pub mod Choices
 pub mod Cutting
+pub mod DateCuts
+pub mod DateForms
+pub mod Numbers
+pub mod Tails

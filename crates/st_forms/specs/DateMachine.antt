@@ -1,5 +1,6 @@
 -- How a date is read: each form from the left, one after the other.
 use Rattle.std.specs.Prelude.{ℕ, List, Option, Some, None}
+use Rattle.std.specs.Option.{option_or}
 use Rattle.st_text.specs.Lines.{skip_blanks}
 use Rattle.st_text.specs.Scan.{◌>>=◌, after}
 use Rattle.st_dates.specs.DayTextMachine.{day_of_text}
@@ -36,13 +37,8 @@ month_first text =
     named_month text >>= λ m. run 1 2 m.1
     >>= λ d. after 44 d.1 >>= λ t. run 4 4 (skip_blanks t) >>= λ y. Some (OfMonth y.0 m.0 d.0, y.1)
 
--- the first reading that there is
-abbrev pub first_of : {A : Type 0} → Option A → Option A → Option A
-first_of None other = other
-first_of (Some x) other = Some x
-
 -- the date with which a text begins, and the rest
 unfoldable pub date_of_text : List ℕ → Option (CalendarDate × List ℕ)
 date_of_text text =
-    first_of (day_of_text text)
-    (first_of (year_first text) (first_of (day_first text) (first_of (slashed text) (month_first text))))
+    option_or (day_of_text text)
+    (option_or (year_first text) (option_or (day_first text) (option_or (slashed text) (month_first text))))

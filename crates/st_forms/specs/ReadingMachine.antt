@@ -1,5 +1,6 @@
 -- How a time is read: by its form, then its system, its day and the range.
 use Rattle.std.specs.Prelude.{ℕ, ◌^◌, ◌*◌, ◌<◌, Bool, true, false, not, ◌&&◌, ◌||◌, ◌==◌, nat_le, List, [], ◌∷◌, codes, ℤ, pos, Option, Some, None, Result, Ok, Err, if◌then◌else◌}
+use Rattle.std.specs.Option.{option_or}
 use Rattle.st_text.specs.Lines.{trimmed}
 use Rattle.st_text.specs.Scan.{◌>>=◌}
 use Rattle.st_dates.specs.AtDateMachine.{is_in_range}
@@ -12,7 +13,7 @@ use Rattle.st_dates.specs.declared.label.Label.{Label}
 use Rattle.st_dates.specs.declared.system.System.{System}
 use Rattle.st_dates.specs.declared.system.System.TheVariants.{Utc, Tai, Tt, Tdb, Sclk}
 use Rattle.st_decimal.specs.Value.{is_minus, signed}
-use Rattle.st_forms.specs.DateMachine.{date_of_text, first_of}
+use Rattle.st_forms.specs.DateMachine.{date_of_text}
 use Rattle.st_forms.specs.NumberMachine.{number_of_text}
 use Rattle.st_forms.specs.Reading.{julian_instant}
 use Rattle.st_forms.specs.TailMachine.{is_word, scale_of_text, tail_of_text}
@@ -55,7 +56,7 @@ IsSmall (Plain instant) = Unit {0}
 
 -- what a text is read as
 unfoldable pub reading_of : List ℕ → Option Reading
-reading_of text = first_of (seconds_of_text text) (first_of (julian_of_text text) (dated_of_text text))
+reading_of text = option_or (seconds_of_text text) (option_or (julian_of_text text) (dated_of_text text))
 
 abbrev pub is_utc : System → Bool
 is_utc Utc = true
