@@ -5,3 +5,6 @@ pub mod DateForms
 pub mod Numbers
 pub mod ReadingForms
 pub mod Tails
+pub mod ReadingCuts
+pub mod Values
+pub mod TimeLaws

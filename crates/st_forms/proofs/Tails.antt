@@ -51,7 +51,7 @@ unfolding system_named
 by_lower text = refl
 
 -- a word that names a system is found
-system_found : (text : List ℕ) (s : System) → NamesSystem text s → system_named text ≡ Some s
+pub system_found : (text : List ℕ) (s : System) → NamesSystem text s → system_named text ≡ Some s
 system_found text Utc e = by_lower text ∙ ap named_lower e
 system_found text Tai e = by_lower text ∙ ap named_lower e
 system_found text Tt (inl e) = by_lower text ∙ ap named_lower e
