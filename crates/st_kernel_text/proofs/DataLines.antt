@@ -1,10 +1,8 @@
 -- The data are those of lines: each byte stands on the line of the byte behind it, but for the end of a line.
 use Rattle.std.proofs.Common.{inl, inr, ◌⊎◌, ◌≡◌, ℕ, ◌+◌, Bool, true, false, List, [], ◌∷◌, ◌++◌, refl, ap, sym, ◌∙◌, subst, append_assoc}
-use Rattle.std.specs.Prelude.{◌==◌, ⊤, if◌then◌else◌}
+use Rattle.std.specs.Prelude.{⊤, if◌then◌else◌}
 use Rattle.std.specs.List.{list_all}
 use Rattle.std.proofs.lemmas.Bool.{and_parts, and_from}
-use Rattle.std.proofs.lemmas.Bool.Decides.{nat_tests}
-use Rattle.std.proofs.lemmas.Grind.{common_steps}
 use Rattle.st_kernel_text.specs.File.{numbered, line_data, data_text, reads_after, is_data}
 use Rattle.st_kernel_text.specs.Grammar.{Data, plain}
 use Rattle.st_kernel_text.specs.Values.{is_no_line_end}

@@ -1,18 +1,16 @@
 -- Where the plain table finds no value, the reader stops at a byte of it.
-use Rattle.std.proofs.Common.{inl, inr, ◌⊎◌, ◌≡◌, ℕ, ◌≤◌, Bool, true, false, List, [], ◌∷◌, ◌++◌, length, refl, ap, sym, ◌∙◌, subst, append_assoc, arith}
+use Rattle.std.proofs.Common.{inl, inr, ◌⊎◌, ◌≡◌, ℕ, true, false, List, [], ◌∷◌, ◌++◌, length, refl, ap, sym, ◌∙◌, subst, append_assoc, arith}
 use Rattle.std.specs.Prelude.{◌==◌, nat_lt}
-use Rattle.std.specs.List.{list_all}
-use Rattle.std.proofs.lemmas.Bool.{cases_Bool, cond-true, cond-false, eqb-true}
+use Rattle.std.proofs.lemmas.Bool.{cases_Bool, cond-true, eqb-true}
 use Rattle.st_kernel_text.specs.Bytes.{is_run_byte}
-use Rattle.st_kernel_text.specs.FaultSteps.{BeginsWithout, is_quote, HasBadRun, HasOpenText, HasBadEnd, HasBadValue, HasOtherKind}
-use Rattle.st_kernel_text.specs.Faults.{HasValue, HasAnyValue, IsOther, cause_of}
-use Rattle.st_kernel_text.specs.Grammar.{Data, plain, EndsValue, same_kind}
-use Rattle.st_kernel_text.specs.Values.{Spells, IsContent, quoted, cause_of_run, may_follow}
+use Rattle.st_kernel_text.specs.FaultSteps.{BeginsWithout, is_quote, HasBadRun, HasOpenText, HasBadEnd, HasBadValue}
+use Rattle.st_kernel_text.specs.Faults.{HasAnyValue, cause_of}
+use Rattle.st_kernel_text.specs.Grammar.{Data, plain}
+use Rattle.st_kernel_text.specs.Values.{IsContent, quoted, cause_of_run, may_follow}
 use Rattle.st_kernel_text.specs.declared.fault.TextCause.{TextCause}
-use Rattle.st_kernel_text.specs.declared.fault.TextCause.TheVariants.{BadNumber, BadString}
-use Rattle.st_kernel_text.specs.declared.value.Value.{Value}
+use Rattle.st_kernel_text.specs.declared.fault.TextCause.TheVariants.{BadString}
 use Rattle.st_kernel_text.specs.declared.value.Value.TheVariants.{Number, Text}
-use Rattle.st_kernel_text.proofs.DataLines.{InLines, Split, split}
+use Rattle.st_kernel_text.proofs.DataLines.{InLines, split}
 use Rattle.st_kernel_text.proofs.Grows.{quoted_byte, quoted_quote}
 use Rattle.st_kernel_text.proofs.LiveTokens.{content_more, full}
 use Rattle.st_kernel_text.proofs.PlainValues.{NoValueHere, plain_value, line_feed_no_run}

@@ -1,8 +1,7 @@
 -- The plain table of faults says the same as the byte at which the reader stops, row by row.
-use Rattle.std.proofs.Common.{inl, inr, ◌⊎◌, ◌≡◌, ℕ, Bool, true, false, List, [], ◌∷◌, ◌++◌, refl, ap, sym, ◌∙◌, subst, append_assoc}
-use Rattle.std.specs.Prelude.{◌==◌}
+use Rattle.std.proofs.Common.{inl, inr, ◌≡◌, ℕ, true, false, List, [], ◌∷◌, ◌++◌, refl, ap, sym, ◌∙◌, subst}
 use Rattle.std.specs.List.{list_all}
-use Rattle.std.proofs.lemmas.Bool.{and_parts, and_from}
+use Rattle.std.proofs.lemmas.Bool.{and_from}
 use Rattle.std.proofs.lemmas.List.Folds.{list_all-append}
 use Rattle.st_kernel_text.specs.Bytes.{is_space, is_run_byte}
 use Rattle.st_kernel_text.specs.FaultSteps as steps
@@ -12,7 +11,7 @@ use Rattle.st_kernel_text.specs.Faults.{Row, between, behind_name, behind_sign, 
 use Rattle.st_kernel_text.specs.Grammar.{Data, plain, EndsValue, same_kind}
 use Rattle.st_kernel_text.specs.Values.{Spells, quoted, is_no_line_end, may_follow}
 use Rattle.st_kernel_text.specs.declared.fault.TextCause.{TextCause}
-use Rattle.st_kernel_text.specs.declared.fault.TextCause.TheVariants.{NoValue, MixedKinds, TrailingText}
+use Rattle.st_kernel_text.specs.declared.fault.TextCause.TheVariants.{MixedKinds, TrailingText}
 use Rattle.st_kernel_text.specs.declared.value.Value.{Value}
 use Rattle.st_kernel_text.specs.declared.value.Value.TheVariants.{Number, Text}
 use Rattle.st_kernel_text.proofs.DataLines.{InLines, rest_lines, word_line, weaker, head_of}

@@ -1,6 +1,6 @@
 -- The plain table of faults says the same as the byte at which the reader stops: values.
-use Rattle.std.proofs.Common.{inl, inr, ◌⊎◌, ◌≡◌, ℕ, ◌+◌, ◌≤◌, ◌<◌, Bool, true, false, List, [], ◌∷◌, ◌++◌, length, refl, ap, sym, ◌∙◌, subst, arith, append_assoc, length-append, eq-eqb}
-use Rattle.std.specs.Prelude.{◌==◌, ⊤, nat_lt}
+use Rattle.std.proofs.Common.{inl, inr, ◌⊎◌, ◌≡◌, ℕ, Bool, true, false, List, [], ◌∷◌, ◌++◌, length, refl, ap, sym, ◌∙◌, subst, arith, append_assoc, length-append, eq-eqb}
+use Rattle.std.specs.Prelude.{◌==◌}
 use Rattle.std.specs.List.{list_all}
 use Rattle.std.proofs.lemmas.Bool.{and_parts, and_from, cases_Bool, cond-true, cond-false, eqb-true}
 use Rattle.std.proofs.lemmas.Bool.Decides.{nat_tests}
@@ -8,18 +8,16 @@ use Rattle.std.proofs.lemmas.Grind.{common_steps}
 use Rattle.std.proofs.lemmas.List.Folds.{list_all-append}
 use Rattle.st_decimal.specs.declared.number.Dec.{Dec}
 use Rattle.st_kernel_text.specs.Bytes.{is_run_byte}
-use Rattle.st_kernel_text.specs.FaultSteps.{BeginsWithout, is_quote, HasBadRun, HasOpenText, HasBadEnd, HasBadValue, HasOtherKind}
-use Rattle.st_kernel_text.specs.Faults.{HasValue, HasAnyValue, IsOther, cause_of}
-use Rattle.st_kernel_text.specs.Grammar.{Data, plain, EndsValue, same_kind}
+use Rattle.st_kernel_text.specs.FaultSteps.{BeginsWithout, is_quote, HasBadRun, HasOpenText, HasBadEnd, HasBadValue}
+use Rattle.st_kernel_text.specs.Faults.{HasAnyValue, cause_of}
+use Rattle.st_kernel_text.specs.Grammar.{Data, plain, EndsValue}
 use Rattle.st_kernel_text.specs.Values.{Spells, ReadsRun, IsContent, quoted, cause_of_run, is_no_line_end, may_follow}
 use Rattle.st_kernel_text.specs.declared.fault.TextCause.{TextCause}
-use Rattle.st_kernel_text.specs.declared.fault.TextCause.TheVariants.{BadNumber, BadString}
+use Rattle.st_kernel_text.specs.declared.fault.TextCause.TheVariants.{BadString}
 use Rattle.st_kernel_text.specs.declared.value.Value.{Value}
 use Rattle.st_kernel_text.specs.declared.value.Value.TheVariants.{Number, Text}
-use Rattle.st_kernel_text.proofs.DataLines.{InLines, Split, split, one_split, weaker, word_line, head_of}
-use Rattle.st_kernel_text.proofs.Grows.{quoted_byte, quoted_quote}
-use Rattle.st_kernel_text.proofs.LiveTokens.{content_more, full}
-use Rattle.st_kernel_text.proofs.States.{plain-append, run_no_follow, run_no_quote, follow_no_quote}
+use Rattle.st_kernel_text.proofs.DataLines.{InLines, one_split, weaker, word_line, head_of}
+use Rattle.st_kernel_text.proofs.States.{plain-append, run_no_follow}
 
 -- no value stands at the first byte
 abbrev pub NoValueHere : Data → ℕ → TextCause → Type 0
