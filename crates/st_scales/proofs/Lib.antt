@@ -7,3 +7,4 @@ pub mod Returns
 pub mod Units
 pub mod Numbers
 pub mod OneAnswer
+mod Examples

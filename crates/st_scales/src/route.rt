@@ -364,37 +364,32 @@ mod tests {
         }
     }
 
-    // `found` has the value of the number in the midst of a source of that width, and is as narrow as promised.
-    fn encloses(rt: &impl Abort, found: Enc, t: i128, width: i128, difference: i128) {
-        assert!(rt; -LATEST <= t && t <= LATEST && 0 <= width && width <= 1000);
+    // `found` has `t` and the difference, and is as narrow as promised.
+    fn encloses(rt: &impl Abort, found: Enc, t: i128, difference: i128) {
+        assert!(rt; -LATEST <= t && t <= LATEST);
         let value = t + difference.div_euclid(PARTS);
-        assert!(rt; found.lo <= value.saturating_sub(width / 2), "below {t}");
-        assert!(rt; value.saturating_add(width / 2) < found.hi, "above {t}");
-        assert!(rt;
-            found.hi.saturating_sub(found.lo) <= width + 900_000,
-            "at {t}"
-        );
+        assert!(rt; found.lo <= value, "below {t}");
+        assert!(rt; value < found.hi, "above {t}");
+        assert!(rt; found.hi.saturating_sub(found.lo) <= 900_000, "at {t}");
+    }
+
+    fn goes_by_tai(rt: &impl Abort, c: &Deltet, t: i128, tdb: Enc) {
+        assert!(rt; -LATEST <= t && t <= LATEST);
+        let point = Enc::point(t);
+        let tai = convert(c, point, Scale::Tt, Scale::Tai);
+        assert_eq!(rt; tai, Enc::point(t - c.delta_ta()));
+        assert_eq!(rt; convert(c, tai, Scale::Tai, Scale::Tt), point);
+        assert_eq!(rt; convert(c, tai, Scale::Tai, Scale::Tdb), tdb);
     }
 
     fn goes_both_ways(rt: &impl Abort, c: &Deltet, rows: &[(i128, i128, i128)]) {
         for &(t, ahead, behind) in rows {
             assert!(rt; -LATEST <= t && t <= LATEST);
             let point = Enc::point(t);
-            encloses(rt, convert(c, point, Scale::Tt, Scale::Tdb), t, 0, ahead);
-            encloses(rt, convert(c, point, Scale::Tdb, Scale::Tt), t, 0, behind);
-            let wide = Enc {
-                lo: t - 500,
-                hi: t + 500,
-            };
-            encloses(rt, convert(c, wide, Scale::Tt, Scale::Tdb), t, 1000, ahead);
-            encloses(rt, convert(c, wide, Scale::Tdb, Scale::Tt), t, 1000, behind);
-            let tai = convert(c, point, Scale::Tt, Scale::Tai);
-            assert_eq!(rt; tai, Enc::point(t - c.delta_ta()));
-            assert_eq!(rt; convert(c, tai, Scale::Tai, Scale::Tt), point);
-            assert_eq!(rt;
-                convert(c, tai, Scale::Tai, Scale::Tdb),
-                convert(c, point, Scale::Tt, Scale::Tdb)
-            );
+            let tdb = convert(c, point, Scale::Tt, Scale::Tdb);
+            encloses(rt, tdb, t, ahead);
+            encloses(rt, convert(c, point, Scale::Tdb, Scale::Tt), t, behind);
+            goes_by_tai(rt, c, t, tdb);
         }
     }
 
