@@ -127,6 +127,8 @@ mod tests {
 
     const LATEST: i128 = 6_311_391_400 * UNIT;
 
+    const FARTHEST: i128 = 6_311_391_500 * UNIT;
+
     // Each row has a time t; TDB of the TT value t, less t; and TT of the TDB value t, less t: in parts of 10^-24 s, by mpmath
     // at ninety digits.
 
@@ -373,13 +375,10 @@ mod tests {
         assert!(rt; found.hi.saturating_sub(found.lo) <= 900_000, "at {t}");
     }
 
-    fn goes_by_tai(rt: &impl Abort, c: &Deltet, t: i128, tdb: Enc) {
-        assert!(rt; -LATEST <= t && t <= LATEST);
-        let point = Enc::point(t);
-        let tai = convert(c, point, Scale::Tt, Scale::Tai);
-        assert_eq!(rt; tai, Enc::point(t - c.delta_ta()));
-        assert_eq!(rt; convert(c, tai, Scale::Tai, Scale::Tt), point);
-        assert_eq!(rt; convert(c, tai, Scale::Tai, Scale::Tdb), tdb);
+    fn leads_to(rt: &impl Abort, c: &Deltet, t: i128, from: Scale, to: Scale, wanted: Enc) {
+        assert!(rt; -FARTHEST <= t && t <= FARTHEST);
+        let found = convert(c, Enc::point(t), from, to);
+        assert_eq!(rt; found, wanted, "at {t}");
     }
 
     fn goes_both_ways(rt: &impl Abort, c: &Deltet, rows: &[(i128, i128, i128)]) {
@@ -389,7 +388,10 @@ mod tests {
             let tdb = convert(c, point, Scale::Tt, Scale::Tdb);
             encloses(rt, tdb, t, ahead);
             encloses(rt, convert(c, point, Scale::Tdb, Scale::Tt), t, behind);
-            goes_by_tai(rt, c, t, tdb);
+            let tai = t.saturating_sub(c.delta_ta());
+            leads_to(rt, c, t, Scale::Tt, Scale::Tai, Enc::point(tai));
+            leads_to(rt, c, tai, Scale::Tai, Scale::Tt, point);
+            leads_to(rt, c, tai, Scale::Tai, Scale::Tdb, tdb);
         }
     }
 
