@@ -198,8 +198,8 @@ date_read (name_day_year name gap day blanks year) rest ((hy, hn, hd), (hg, hb))
     record {
       date = d;
       read =
-        ap date_of_text (comma_apart name gap day blanks year rest)
-        ∙ fifth_of_five text rest d none
+          ap date_of_text (comma_apart name gap day blanks year rest)
+          ∙ fifth_of_five text rest d none
           (no_year_first text (run_no_digit 4 4 text (omega arith) behind))
           (no_day_first text (run_no_digit 1 2 text (omega arith) behind))
           (no_slashed text (run_no_digit 1 2 text (omega arith) behind))

@@ -78,15 +78,15 @@ takes system form (calendar date written scale) (Dated d t o) h k = dates_only f
 takes system form (calendar date written scale) (Julian z o) h k = absurd h
 takes system form (calendar date written scale) (Plain z) h k = absurd h
 takes system form (julian mark gap days scale) (Julian z o) h k = (
-    dates_only form (and-left (takes_dates form) (not (is_utc system)) k),
-    utc_not system (and-right (takes_dates form) (not (is_utc system)) k),
-  )
+  dates_only form (and-left (takes_dates form) (not (is_utc system)) k),
+  utc_not system (and-right (takes_dates form) (not (is_utc system)) k),
+)
 takes system form (julian mark gap days scale) (Dated d t o) h k = absurd h
 takes system form (julian mark gap days scale) (Plain z) h k = absurd h
 takes system form (plain sign seconds) (Plain z) h k = (
-    seconds_only form (and-left (takes_seconds form) (not (is_utc system)) k),
-    utc_not system (and-right (takes_seconds form) (not (is_utc system)) k),
-  )
+  seconds_only form (and-left (takes_seconds form) (not (is_utc system)) k),
+  utc_not system (and-right (takes_seconds form) (not (is_utc system)) k),
+)
 takes system form (plain sign seconds) (Dated d t o) h k = absurd h
 takes system form (plain sign seconds) (Julian z o) h k = absurd h
 

@@ -117,9 +117,9 @@ same_label label day of_day e f =
 -- a label of the date is the one that is made
 only_label : (date : DateText) (written : TimeText) (d : CalendarDate) (t : TimeOfDay) (label : Label) → IsDated date written d t → IsLabelOf date written label → (number_in d ≡ Some label.day) × (label_at label.day t ≡ label)
 only_label date written d t label h (day, of_day) = (
-    named_number (day_text date) d h.names ∙ day_found (day_text date) label.day day,
-    same_label label label.day (pos (day_units t)) refl (of_day ∙ ap pos (sym (units_same written t h.time_is))),
-  )
+  named_number (day_text date) d h.names ∙ day_found (day_text date) label.day day,
+  same_label label label.day (pos (day_units t)) refl (of_day ∙ ap pos (sym (units_same written t h.time_is))),
+)
 
 answer_labelled : (date : DateText) (written : TimeText) (scale : ScaleText) (d : CalendarDate) (t : TimeOfDay) (label : Label) → IsDated date written d t → IsLabelOf date written label → ValueAnswer (calendar date written scale) (labelled t label)
 answer_labelled date written scale d t label h l =

@@ -25,17 +25,17 @@ second (gaps s t) = t
 
 -- the parts of a date as they stand in the text
 pub data DateText : Type 0 where
-  -- YYYY-N1-N1: year, month, day
+  -- YYYY-N1-N1, as 1996-12-18: year, month, day
   year_month_day : List ℕ → List ℕ → List ℕ → DateText
-  -- YYYY-N3: year, place in the year
+  -- YYYY-N3, as 1996-353: year, place in the year
   year_place : List ℕ → List ℕ → DateText
-  -- YYYY S MON S N1: year, month, day
+  -- YYYY S MON S N1, as 1996 DEC 18 or 1996-DEC-18: year, month, day
   year_name_day : List ℕ → Separators → List ℕ → List ℕ → DateText
-  -- N1 S MON S YYYY: day, month, year
+  -- N1 S MON S YYYY, as 18 DEC 1996: day, month, year
   day_name_year : List ℕ → Separators → List ℕ → List ℕ → DateText
-  -- MON N1, YYYY: month, blanks, day, blanks or none, year
+  -- MON N1, YYYY, as DEC 18, 1996: month, blanks, day, blanks or none behind the comma, year
   name_day_year : List ℕ → List ℕ → List ℕ → List ℕ → List ℕ → DateText
-  -- N1/N1/YYYY: month, day, year
+  -- N1/N1/YYYY, month first, as 12/18/1996: month, day, year
   month_day_year : List ℕ → List ℕ → List ℕ → DateText
 
 -- the whole text of a date; 44 is the byte `,`, 45 `-` and 47 `/`

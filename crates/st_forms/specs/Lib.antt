@@ -1,5 +1,6 @@
 pub mod DateForm
 pub mod DateMachine
+pub mod Laws
 pub mod NumberForm
 pub mod NumberMachine
 pub mod Reading

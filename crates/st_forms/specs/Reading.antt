@@ -1,11 +1,11 @@
 -- What a time text stands for, and its first refusal. Source: Time Required Reading, for the forms of
 -- times. Which of its forms are taken, and the order of the refusals, are choices of this project.
-use Rattle.std.specs.Prelude.{◌≡◌, ◌≢◌, ℕ, ◌*◌, ◌^◌, ◌⊎◌, List, [], ◌++◌, codes, ℤ, pos, ◌-ℤ◌, ◌*ℤ◌, Result, Ok, Err}
+use Rattle.std.specs.Prelude.{◌≡◌, ◌≢◌, ℕ, ◌*◌, ◌^◌, ◌⊎◌, List, [], ◌++◌, codes, ℤ, pos, ◌-ℤ◌, ◌*ℤ◌, ◌≤ℤ◌, ◌<ℤ◌, Result, Ok, Err}
 use Rattle.st_text.specs.Lines.{trimmed}
 use Rattle.st_dates.specs.DayText.{IsDayOf}
-use Rattle.st_dates.specs.Label.{formal}
+use Rattle.st_dates.specs.Label.{formal, units}
 use Rattle.st_dates.specs.Names.{AreSameLetters}
-use Rattle.st_dates.specs.Range.{IsInRange}
+use Rattle.st_dates.specs.Range.{IsInRange, LiesInRange}
 use Rattle.st_dates.specs.TimeText.{TimeText, time_spelling, time_units}
 use Rattle.st_dates.specs.declared.label.Label.{Label}
 use Rattle.st_dates.specs.declared.system.System.{System}
@@ -24,11 +24,11 @@ use Rattle.st_forms.specs.declared.time.TimeText.TheVariants.{Label as OfLabel, 
 
 -- a time as it is written, one case for each kind
 pub data Written : Type 0 where
-  -- a calendar date, its time and its scale word
+  -- a calendar date, its time and its scale word, as 12/18/1996 12:28:28 UTC
   calendar : DateText → TimeText → ScaleText → Written
-  -- `JD`, blanks, days and a scale word
+  -- `JD`, blanks, days and a scale word, as JD 2451545.5
   julian : List ℕ → List ℕ → NumberText → ScaleText → Written
-  -- a sign or none, and seconds past J2000
+  -- a sign or none, and seconds past J2000, as -0.5
   plain : List ℕ → NumberText → Written
 
 -- the whole text of a time
@@ -105,3 +105,9 @@ ReadsTime text system form (Err NoSuchDay) =
 ReadsTime text system form (Err OutOfRange) =
     (w : Written) × Spells system form text w × NamesNoOther system w
     × ((z : ℤ) × IsValueOf w z × (IsInRange z → ⊥))
+
+-- a label of the range with a second of a day that has at most 86,401, or an instant of the range
+abbrev pub IsGood : Time → Type 0
+IsGood (OfLabel label) = LiesInRange label × (pos 0 ≤ℤ label.of_day) × (label.of_day <ℤ units (pos 86_401))
+IsGood (Instant z) = IsInRange z
+IsGood NoSecond = Unit {0}

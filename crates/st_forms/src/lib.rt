@@ -5,6 +5,7 @@
 mod date;
 mod fault;
 mod form;
+pub mod laws;
 mod number;
 mod reading;
 mod tail;

@@ -29,27 +29,31 @@ pub enum Reading {
         scale: Option<System>,
     },
     /// Plain seconds, as units of 10^-18 s past J2000.
-    Plain { instant: i128 },
+    Plain {
+        instant: i128,
+    },
 }
 
-/// Whether a source of this system and form takes what was read.
-pub(crate) fn is_taken(reading: Reading, system: System, form: Form) -> bool
-    ensures { result ≡ machine.is_taken system form reading }
-{
-    match reading {
-        Reading::Dated { .. } => form != Form::Seconds,
-        Reading::Julian { .. } => form != Form::Seconds && system != System::Utc,
-        Reading::Plain { .. } => form != Form::Calendar && system != System::Utc,
+impl Reading {
+    /// Whether a source of this system and form takes what was read.
+    pub(crate) fn is_taken(self, system: System, form: Form) -> bool
+        ensures { result ≡ machine.is_taken system form self }
+    {
+        match self {
+            Reading::Dated { .. } => form != Form::Seconds,
+            Reading::Julian { .. } => form != Form::Seconds && system != System::Utc,
+            Reading::Plain { .. } => form != Form::Calendar && system != System::Utc,
+        }
     }
-}
 
-/// The system that a word in the text names.
-pub(crate) fn scale(reading: Reading) -> Option<System>
-    ensures { result ≡ scale_of reading }
-{
-    match reading {
-        Reading::Dated { scale, .. } | Reading::Julian { scale, .. } => scale,
-        Reading::Plain { .. } => None,
+    /// The system that a word in the text names.
+    pub(crate) fn scale(self) -> Option<System>
+        ensures { result ≡ scale_of self }
+    {
+        match self {
+            Reading::Dated { scale, .. } | Reading::Julian { scale, .. } => scale,
+            Reading::Plain { .. } => None,
+        }
     }
 }
 
@@ -59,7 +63,9 @@ pub(crate) fn find_reading(text: &[u8]) -> Option<Reading>
     ensures value { result ≡ machine.reading_of text.now }
     ensures small { IfSome result IsSmall }
 {
-    read_seconds(text).or(read_julian(text)).or(read_dated(text))
+    read_seconds(text)
+        .or(read_julian(text))
+        .or(read_dated(text))
 }
 
 /// Plain seconds: a sign or none, and a decimal.

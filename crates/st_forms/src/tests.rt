@@ -42,7 +42,7 @@ const DATES: [(&[u8], i32); 31] = [
 ];
 
 /// Times of 2000-01-01, in seconds and 10^-12 of a second.
-const TIMES: [(&[u8], i128, i128); 24] = [
+const TIMES: [(&[u8], i64, i64); 24] = [
     (b"2000-01-01T12:28:28", 44_908, 0),
     (b"2000-01-01 12:28:28", 44_908, 0),
     (b"2000-01-01t12:28:28", 44_908, 0),
@@ -70,7 +70,7 @@ const TIMES: [(&[u8], i128, i128); 24] = [
 ];
 
 /// Instants of a source in TT, in seconds and 10^-12 of a second past J2000.
-const INSTANTS: [(&[u8], i128, i128); 28] = [
+const INSTANTS: [(&[u8], i64, i64); 28] = [
     (b"JD 2451545.5", 43_200, 0),
     (b"jd 2451545", 0, 0),
     (b"Jd   2451545.0", 0, 0),
@@ -208,6 +208,81 @@ const BAD_INSTANTS: [&[u8]; 20] = [
     b"0x5",
 ];
 
+/// Texts of a source in UTC with their first refusal.
+const UTC_REFUSALS: [(&[u8], FormFault); 31] = [
+    (b"12/18/1996 12:28:28 TDB", FormFault::WrongSystem),
+    (b"1996-12-18 TAI", FormFault::WrongSystem),
+    (b"1996-02-30 TAI", FormFault::WrongSystem),
+    (b"9999-12-31 TAI", FormFault::WrongSystem),
+    (b"1996-02-30", FormFault::NoSuchDay),
+    (b"1996-02-30 12:00 UTC", FormFault::NoSuchDay),
+    (b"1996-13-01", FormFault::NoSuchDay),
+    (b"1996-00-01", FormFault::NoSuchDay),
+    (b"1996-01-00", FormFault::NoSuchDay),
+    (b"1996-1-32", FormFault::NoSuchDay),
+    (b"1700-02-29", FormFault::NoSuchDay),
+    (b"0000-02-30", FormFault::NoSuchDay),
+    (b"1996-367", FormFault::NoSuchDay),
+    (b"1995-366", FormFault::NoSuchDay),
+    (b"1996-000", FormFault::NoSuchDay),
+    (b"0/1/1996", FormFault::NoSuchDay),
+    (b"13/1/1996", FormFault::NoSuchDay),
+    (b"18/12/1996", FormFault::NoSuchDay),
+    (b"FEB 30, 1996", FormFault::NoSuchDay),
+    (b"31-APR-2000", FormFault::NoSuchDay),
+    (b"0 JAN 2000", FormFault::NoSuchDay),
+    (b"2000-06-31T10:10:60", FormFault::NoSuchDay),
+    (b"0000-02-29", FormFault::OutOfRange),
+    (b"0000-001", FormFault::OutOfRange),
+    (b"9999-12-31", FormFault::OutOfRange),
+    (b"9999-365T23:59:60", FormFault::OutOfRange),
+    (b"1899-12-31T23:59:59", FormFault::OutOfRange),
+    (b"2100-01-01T0:0:0.000000000001", FormFault::OutOfRange),
+    (b"2100-1-2", FormFault::OutOfRange),
+    (b"2099-12-31T23:59:60.5", FormFault::OutOfRange),
+    (b"2101-01-01T10:10:60", FormFault::OutOfRange),
+];
+
+/// Texts of a source in TT with their first refusal.
+const TT_REFUSALS: [(&[u8], FormFault); 13] = [
+    (b"1996-12-18 UTC", FormFault::WrongSystem),
+    (b"1996-12-18 ET", FormFault::WrongSystem),
+    (b"JD 2451545 UTC", FormFault::WrongSystem),
+    (b"1900 FEB 29", FormFault::NoSuchDay),
+    (b"1899-12-31T23:59:59.999999999999", FormFault::OutOfRange),
+    (b"JAN 1, 2100 00:01", FormFault::OutOfRange),
+    (b"JD 2415020.499999999999", FormFault::OutOfRange),
+    (b"JD 2488069.500000000001", FormFault::OutOfRange),
+    (b"JD 0", FormFault::OutOfRange),
+    (
+        b"JD 999999999999999999999999999999999999999999 TT",
+        FormFault::OutOfRange,
+    ),
+    (b"3155716800.000000000001", FormFault::OutOfRange),
+    (b"-3155716800.000000000001", FormFault::OutOfRange),
+    (
+        b"99999999999999999999999999999999999999999999",
+        FormFault::OutOfRange,
+    ),
+];
+
+/// Calendar dates with a scale word or near an end of the range: the days past 2000-01-01 and the seconds.
+const NAMED: [(&[u8], System, i32, i64); 13] = [
+    (b"DEC 18, 1996 12:28:28", System::Utc, -1109, 44_908),
+    (b"1996-353T12:28:28", System::Utc, -1109, 44_908),
+    (b"12/18/1996 12:28:28 UTC", System::Utc, -1109, 44_908),
+    (b"1996 DEC 18 utc", System::Utc, -1109, 0),
+    (b"18-DEC-1996T0:1  UTC", System::Utc, -1109, 60),
+    (b"1996-12-18 TAI", System::Tai, -1109, 0),
+    (b"1996-353 12:28:28 tai", System::Tai, -1109, 44_908),
+    (b"1996-12-18 TT", System::Tt, -1109, 0),
+    (b"1996-12-18 Tdt", System::Tt, -1109, 0),
+    (b"1996-12-18 TDB", System::Tdb, -1109, 0),
+    (b"1996-12-18T12:28:28\tET", System::Tdb, -1109, 44_908),
+    (b"2099-12-31T23:59:60", System::Utc, 36_524, 86_400),
+    (b"1899-12-31T23:59:60", System::Utc, -36_525, 86_400),
+];
+
 #[test]
 fn reads_dates(rt: HostRuntime) {
     for (text, day) in DATES {
@@ -220,7 +295,7 @@ fn reads_dates(rt: HostRuntime) {
 #[test]
 fn reads_times(rt: HostRuntime) {
     for (text, seconds, parts) in TIMES {
-        let of_day = seconds * SECOND + parts * 1_000_000;
+        let of_day = i128::from(seconds) * SECOND + i128::from(parts) * 1_000_000;
         let label = Ok(TimeText::Label(Label { day: 0, of_day }));
         assert_eq!(rt; read_time(text, System::Utc, Form::Any), label);
     }
@@ -229,18 +304,141 @@ fn reads_times(rt: HostRuntime) {
 #[test]
 fn reads_instants(rt: HostRuntime) {
     for (text, seconds, parts) in INSTANTS {
-        let instant = Ok(TimeText::Instant(seconds * SECOND + parts * 1_000_000));
+        let instant = i128::from(seconds) * SECOND + i128::from(parts) * 1_000_000;
+        let instant = Ok(TimeText::Instant(instant));
         assert_eq!(rt; read_time(text, System::Tt, Form::Any), instant);
-        assert_eq!(rt; read_time(text, System::Utc, Form::Any), Err(FormFault::BadTime));
+        assert_eq!(rt;
+            read_time(text, System::Utc, Form::Any),
+            Err(FormFault::BadTime)
+        );
     }
 }
 
 #[test]
 fn refuses_forms(rt: HostRuntime) {
     for text in BAD_TIMES {
-        assert_eq!(rt; read_time(text, System::Utc, Form::Any), Err(FormFault::BadTime));
+        assert_eq!(rt;
+            read_time(text, System::Utc, Form::Any),
+            Err(FormFault::BadTime)
+        );
     }
     for text in BAD_INSTANTS {
-        assert_eq!(rt; read_time(text, System::Tt, Form::Any), Err(FormFault::BadTime));
+        assert_eq!(rt;
+            read_time(text, System::Tt, Form::Any),
+            Err(FormFault::BadTime)
+        );
+    }
+}
+
+#[test]
+fn refuses_in_order(rt: HostRuntime) {
+    for (text, fault) in UTC_REFUSALS {
+        assert_eq!(rt; read_time(text, System::Utc, Form::Any), Err(fault));
+    }
+    for (text, fault) in TT_REFUSALS {
+        assert_eq!(rt; read_time(text, System::Tt, Form::Any), Err(fault));
+    }
+}
+
+#[test]
+fn refuses_by_system_and_form(rt: HostRuntime) {
+    let bad_time = Err(FormFault::BadTime);
+    let wrong_system = Err(FormFault::WrongSystem);
+    assert_eq!(rt;
+        read_time(b"1996-12-18 12:00 tt", System::Utc, Form::Calendar),
+        wrong_system
+    );
+    assert_eq!(rt;
+        read_time(b"1996-12-18 TDT", System::Tdb, Form::Any),
+        wrong_system
+    );
+    assert_eq!(rt;
+        read_time(b"JD 9999999999 TAI", System::Tdb, Form::Calendar),
+        wrong_system
+    );
+    assert_eq!(rt; read_time(b"5", System::Tt, Form::Calendar), bad_time);
+    assert_eq!(rt;
+        read_time(b"1996-12-18", System::Tt, Form::Seconds),
+        bad_time
+    );
+    assert_eq!(rt;
+        read_time(b"1996-02-30 UTC", System::Tt, Form::Seconds),
+        bad_time
+    );
+    assert_eq!(rt;
+        read_time(b"JD 2451545", System::Tt, Form::Seconds),
+        bad_time
+    );
+    assert_eq!(rt; read_time(b"5", System::Utc, Form::Seconds), bad_time);
+    assert_eq!(rt;
+        read_time(b"1996-12-18", System::Utc, Form::Seconds),
+        bad_time
+    );
+    assert_eq!(rt;
+        read_time(b"JD 2451545 UTC", System::Utc, Form::Calendar),
+        bad_time
+    );
+}
+
+#[test]
+fn reads_long_lines(rt: HostRuntime) {
+    let bad_time = Err(FormFault::BadTime);
+    let out_of_range = Err(FormFault::OutOfRange);
+    assert_eq!(rt;
+        read_time(&[b'9'; 1000], System::Tt, Form::Any),
+        out_of_range
+    );
+    assert_eq!(rt; read_time(&[b'9'; 1000], System::Utc, Form::Any), bad_time);
+    assert_eq!(rt;
+        read_time(&[b'0'; 1000], System::Tt, Form::Any),
+        Ok(TimeText::Instant(0))
+    );
+    assert_eq!(rt; read_time(&[b' '; 1000], System::Tt, Form::Any), bad_time);
+    assert_eq!(rt; read_time(&[b'J'; 1000], System::Tt, Form::Any), bad_time);
+    assert_eq!(rt; read_time(&[255; 1000], System::Tt, Form::Any), bad_time);
+}
+
+#[test]
+fn reads_scale_words(rt: HostRuntime) {
+    for (text, system, day, seconds) in NAMED {
+        assert!(rt; system != System::Sclk);
+        let of_day = i128::from(seconds) * SECOND;
+        let label = Ok(TimeText::Label(Label { day, of_day }));
+        assert_eq!(rt; read_time(text, system, Form::Any), label);
+        assert_eq!(rt; read_time(text, system, Form::Calendar), label);
+    }
+}
+
+#[test]
+fn takes_forms(rt: HostRuntime) {
+    let zero = Ok(TimeText::Instant(0));
+    assert_eq!(rt;
+        read_time(b"JD 2451545 ET", System::Tdb, Form::Calendar),
+        zero
+    );
+    assert_eq!(rt; read_time(b"0", System::Tai, Form::Seconds), zero);
+    assert_eq!(rt; read_time(b"+0.0", System::Tai, Form::Any), zero);
+}
+
+#[test]
+fn reads_second_sixty(rt: HostRuntime) {
+    let mut text = *b"2000-01-01T00:00:60";
+    let last = Label {
+        day: 0,
+        of_day: 86_400 * SECOND,
+    };
+    for hour in 0..24u8 {
+        for minute in 0..60u8 {
+            text[11] = b'0' + hour / 10;
+            text[12] = b'0' + hour % 10;
+            text[14] = b'0' + minute / 10;
+            text[15] = b'0' + minute % 10;
+            let answer = if hour == 23 && minute == 59 {
+                TimeText::Label(last)
+            } else {
+                TimeText::NoSecond
+            };
+            assert_eq!(rt; read_time(&text, System::Tt, Form::Any), Ok(answer));
+        }
     }
 }

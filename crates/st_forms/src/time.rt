@@ -1,14 +1,14 @@
 //! The label or the instant of a time text.
 
-ghost use Rattle.std.specs.Prelude.{◌≡◌, ◌≢◌, ◌<◌, ◌*◌, ◌^◌, Result};
+ghost use Rattle.std.specs.Prelude.{◌≡◌, ◌≢◌, ◌<◌, ◌*◌, ◌^◌, Result, IfOk};
 ghost use Rattle.st_dates.specs.DayTextMachine.{number_in, HasFourDigits};
-ghost use Rattle.st_forms.specs.Reading.{ReadsTime};
+ghost use Rattle.st_forms.specs.Reading.{ReadsTime, IsGood};
 ghost use Rattle.st_forms.specs.ReadingMachine as machine;
 ghost use Rattle.st_forms.specs.ReadingMachine.{time_of_text, IsSmall};
 ghost use Rattle.st_forms.specs.declared.fault.FormFault.{FormFault as Fault};
 ghost use Rattle.st_forms.specs.declared.time.TimeText.{TimeText as Time};
 
-use crate::reading::{Reading, find_reading, is_taken, scale};
+use crate::reading::{Reading, find_reading};
 use crate::{Form, FormFault};
 use st_dates::{CalendarDate, FIRST, LAST, Label, SECOND, System, TimeOfDay, is_in_range};
 use st_text::trim;
@@ -52,6 +52,7 @@ pub fn read_time(text: &[u8], system: System, form: Form) -> Result<TimeText, Fo
     requires { system ≢ System.Sclk }
     ensures reads { ReadsTime text.now system form result }
     ensures only { (answer : Result Time Fault) → ReadsTime text.now system form answer → result ≡ answer }
+    ensures good { IfOk result IsGood }
     ensures exact { result ≡ time_of_text text.now system form }
 {
     find_time(text, system, form)
@@ -59,10 +60,11 @@ pub fn read_time(text: &[u8], system: System, form: Form) -> Result<TimeText, Fo
 
 #[tactic(auto, unfolding(crate::specs::ReadingMachine::time_of_text))]
 fn find_time(text: &[u8], system: System, form: Form) -> Result<TimeText, FormFault>
-    ensures { result ≡ time_of_text text.now system form }
+    ensures value { result ≡ time_of_text text.now system form }
+    ensures good { IfOk result IsGood }
 {
     match find_reading(trim(text)) {
-        Some(reading) if is_taken(reading, system, form) => answer(reading, system),
+        Some(reading) if reading.is_taken(system, form) => answer(reading, system),
         _ => Err(FormFault::BadTime),
     }
 }
@@ -70,13 +72,14 @@ fn find_time(text: &[u8], system: System, form: Form) -> Result<TimeText, FormFa
 /// The answer to what was read.
 fn answer(reading: Reading, system: System) -> Result<TimeText, FormFault>
     requires { IsSmall reading }
-    ensures { result ≡ machine.checked system reading }
+    ensures value { result ≡ machine.checked system reading }
+    ensures good { IfOk result IsGood }
 {
-    if names_other(scale(reading), system) {
+    if names_other(reading.scale(), system) {
         return Err(FormFault::WrongSystem);
     }
     match reading {
-        Reading::Dated { date, time, .. } => label(date, time),
+        Reading::Dated { date, time, .. } => labelled(date, time),
         Reading::Julian { instant, .. } => ranged(instant),
         Reading::Plain { instant } => ranged(instant),
     }
@@ -92,12 +95,13 @@ fn names_other(scale: Option<System>, system: System) -> bool
     }
 }
 
-/// The label of a date and a time of day.
-fn label(date: CalendarDate, time: TimeOfDay) -> Result<TimeText, FormFault>
+/// The label of a date and a time of day, or why there is none.
+fn labelled(date: CalendarDate, time: TimeOfDay) -> Result<TimeText, FormFault>
     requires year { HasFourDigits date }
     requires minute { time.minute < 1440 }
     requires units { time.units < 61 * 10 ^ 18 }
-    ensures { result ≡ machine.on_day time (number_in date) }
+    ensures value { result ≡ machine.on_day time (number_in date) }
+    ensures good { IfOk result IsGood }
 {
     let Some(day) = date.day() else {
         return Err(FormFault::NoSuchDay);
@@ -122,8 +126,10 @@ fn is_no_second(time: TimeOfDay) -> bool
     time.units >= MINUTE && time.minute != LAST_MINUTE
 }
 
+/// The instant, where it lies in the range.
 fn ranged(instant: i128) -> Result<TimeText, FormFault>
-    ensures { result ≡ machine.ranged instant }
+    ensures value { result ≡ machine.ranged instant }
+    ensures good { IfOk result IsGood }
 {
     if FIRST <= instant && instant <= LAST {
         Ok(TimeText::Instant(instant))

@@ -7,7 +7,7 @@ use Rattle.st_forms.proofs.time.read_time.Goals as goal
 
 pub returns-clause-reads : goal.returns-clause-reads
 returns-clause-reads c =
-    subst (λ (r : Result TimeText FormFault). ReadsTime c.args.text.now c.args.system c.args.form r) (sym c.find_time.ensures) (reads c.args.text.now c.args.system c.args.form)
+    subst (λ (r : Result TimeText FormFault). ReadsTime c.args.text.now c.args.system c.args.form r) (sym c.find_time.ensures.value) (reads c.args.text.now c.args.system c.args.form)
 
 pub returns-clause-only : goal.returns-clause-only
-returns-clause-only c = λ answer h. c.find_time.ensures ∙ only c.args.text.now c.args.system c.args.form answer h
+returns-clause-only c = λ answer h. c.find_time.ensures.value ∙ only c.args.text.now c.args.system c.args.form answer h
