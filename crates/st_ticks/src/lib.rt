@@ -1,0 +1,12 @@
+//! The face of a type 1 spacecraft clock: its fields, its partitions, and the strings of its ticks.
+#![tactic(auto)]
+
+mod face;
+mod fault;
+mod field;
+mod variable;
+
+pub use face::Face;
+pub use fault::{ClockTextFault, FaceFault};
+pub use field::{Field, Partition};
+pub use variable::{ClockFault, ClockVar, ClockWhy, Var};
