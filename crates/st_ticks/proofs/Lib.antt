@@ -1,2 +1,5 @@
+pub mod CountLaws
+pub mod Cuts
 pub mod FieldLaws
 pub mod PartitionLaws
+pub mod RunLaws

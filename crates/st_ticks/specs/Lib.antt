@@ -3,6 +3,9 @@ pub mod Face
 pub mod FaceParts
 pub mod Laws
 pub mod Reading
+pub mod ReadingMachine
 pub mod Rules
+pub mod TextMachine
 pub mod Tick
 pub mod TickMachine
+pub mod ValueList

@@ -1,9 +1,12 @@
 //! The face of a type 1 spacecraft clock: its fields, its partitions, and the strings of its ticks.
 #![tactic(auto)]
 
+mod count;
+mod cut;
 mod face;
 mod fault;
 mod field;
+mod values;
 mod variable;
 
 pub use face::Face;
