@@ -3,3 +3,4 @@ pub mod Cuts
 pub mod FieldLaws
 pub mod PartitionLaws
 pub mod RunLaws
+pub mod TextLaws
