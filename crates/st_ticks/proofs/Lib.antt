@@ -1,7 +1,10 @@
 pub mod CountLaws
 pub mod Cuts
 pub mod FieldLaws
+pub mod FirstLaws
+pub mod JudgeLaws
 pub mod PartitionLaws
 pub mod PartsLaws
+pub mod ReadingLaws
 pub mod RunLaws
 pub mod TextLaws

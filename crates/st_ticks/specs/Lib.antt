@@ -5,7 +5,9 @@ pub mod Laws
 pub mod Reading
 pub mod ReadingMachine
 pub mod Rules
+pub mod SpellingMachine
 pub mod TextMachine
 pub mod Tick
 pub mod TickMachine
 pub mod ValueList
+pub mod WrittenText

@@ -1,11 +1,14 @@
 //! The face of a type 1 spacecraft clock: its fields, its partitions, and the strings of its ticks.
 #![tactic(auto)]
 
+mod clock_text;
 mod count;
 mod cut;
 mod face;
 mod fault;
 mod field;
+mod place;
+mod spelling;
 mod values;
 mod variable;
 

@@ -1,0 +1,54 @@
+//! The partition of a count and the partition of a tick.
+
+ghost use Rattle.std.specs.Prelude.{◌≡◌, ◌≤◌, ◌<◌, length, IfSome, slice_index};
+ghost use Rattle.st_ticks.specs.Face as face;
+ghost use Rattle.st_ticks.specs.FaceParts.{AreBegins};
+ghost use Rattle.st_ticks.specs.ReadingMachine as machine;
+ghost use Rattle.st_ticks.specs.Tick.{IsPartitionOf};
+
+use crate::field::Partition;
+
+/// Whether a partition has a count, from its start to its end.
+fn has_count(partition: &Partition, count: u64) -> bool
+    ensures { result ≡ machine.has_count count partition.now }
+{
+    partition.start <= count && count <= partition.end
+}
+
+/// Whether a written number is that of a partition; where none is written, every partition may be meant.
+pub fn is_numbered(partitions: &[Partition], written: Option<u64>) -> bool
+    ensures { result ≡ machine.is_numbered partitions.now written }
+{
+    match written {
+        Some(number) => 1 <= number && number <= partitions.len() as u64,
+        None => true,
+    }
+}
+
+/// The place of the partition that is meant, if it has the count: the written one, or else the first
+/// that has it.
+pub fn meant_place(partitions: &[Partition], written: Option<u64>, count: u64) -> Option<usize>
+    requires numbered { machine.is_numbered partitions.now written ≡ true }
+    ensures value { result ≡ machine.meant_place partitions.now written count }
+    ensures inside { IfSome result (λ place. place < length partitions.now) }
+{
+    match written {
+        Some(number) => {
+            let place = (number - 1) as usize;
+            if has_count(&partitions[place], count) {
+                Some(place)
+            } else {
+                None
+            }
+        }
+        None => first_place(partitions, count),
+    }
+}
+
+/// The place of the first partition that has a count.
+fn first_place(partitions: &[Partition], count: u64) -> Option<usize>
+    ensures value { result ≡ machine.meant_place partitions.now None count }
+    ensures inside { IfSome result (λ place. place < length partitions.now) }
+{
+    partitions.iter().position(|partition| has_count(partition, count))
+}
