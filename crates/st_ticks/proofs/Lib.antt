@@ -7,4 +7,5 @@ pub mod PartitionLaws
 pub mod PartsLaws
 pub mod ReadingLaws
 pub mod RunLaws
+pub mod SpellingLaws
 pub mod TextLaws

@@ -1,10 +1,8 @@
 //! The partition of a count and the partition of a tick.
 
-ghost use Rattle.std.specs.Prelude.{◌≡◌, ◌≤◌, ◌<◌, length, IfSome, slice_index};
-ghost use Rattle.st_ticks.specs.Face as face;
-ghost use Rattle.st_ticks.specs.FaceParts.{AreBegins};
+ghost use Rattle.std.specs.Prelude.{◌≡◌, ◌≤◌, ◌<◌, length, IfSome, IsTrue, None, ℕ, nat_le, slice_index};
+ghost use Rattle.std.specs.List.Sorted.{IsNonDecreasingBy};
 ghost use Rattle.st_ticks.specs.ReadingMachine as machine;
-ghost use Rattle.st_ticks.specs.Tick.{IsPartitionOf};
 
 use crate::field::Partition;
 
@@ -28,9 +26,10 @@ pub fn is_numbered(partitions: &[Partition], written: Option<u64>) -> bool
 /// The place of the partition that is meant, if it has the count: the written one, or else the first
 /// that has it.
 pub fn meant_place(partitions: &[Partition], written: Option<u64>, count: u64) -> Option<usize>
-    requires numbered { machine.is_numbered partitions.now written ≡ true }
+    requires numbered { IsTrue (machine.is_numbered partitions.now written) }
     ensures value { result ≡ machine.meant_place partitions.now written count }
     ensures inside { IfSome result (λ place. place < length partitions.now) }
+    ensures has { IfSome result (λ place. IsTrue (machine.has_count count (machine.partition_at partitions.now place))) }
 {
     match written {
         Some(number) => {
@@ -49,6 +48,17 @@ pub fn meant_place(partitions: &[Partition], written: Option<u64>, count: u64) -
 fn first_place(partitions: &[Partition], count: u64) -> Option<usize>
     ensures value { result ≡ machine.meant_place partitions.now None count }
     ensures inside { IfSome result (λ place. place < length partitions.now) }
+    ensures has { IfSome result (λ place. IsTrue (machine.has_count count (machine.partition_at partitions.now place))) }
 {
     partitions.iter().position(|partition| has_count(partition, count))
+}
+
+/// How many partitions begin at a tick or before it. The search is by halves.
+pub fn begun(begins: &[u64], ticks: u64) -> usize
+    requires rising { IsNonDecreasingBy (λ (begin : ℕ). begin) begins.now }
+    ensures bound { result ≤ length begins.now }
+    ensures before { (i : ℕ) → i < result → slice_index begins.now i ≤ ticks }
+    ensures after { (i : ℕ) → result ≤ i → i < length begins.now → ticks < slice_index begins.now i }
+{
+    begins.partition_point(|begin: &u64| -> bool ensures { result ≡ nat_le begin.now ticks } { *begin <= ticks })
 }

@@ -3,8 +3,8 @@
 ghost use Rattle.std.specs.Prelude.{◌≡◌, ◌+◌, ◌-◌, ◌≤◌, ◌<◌, ◌^◌, ◌++◌, length, OnOk};
 ghost use Rattle.std.specs.List.{All};
 ghost use Rattle.st_text.specs.Bytes.{decimal_digits};
-ghost use Rattle.st_ticks.specs.Face.{IsField, span_of_rest};
-ghost use Rattle.st_ticks.specs.SpellingMachine.{fields_text};
+ghost use Rattle.st_ticks.specs.Face.{IsField, span, span_of_rest};
+ghost use Rattle.st_ticks.specs.SpellingMachine.{fields_text, more_text};
 ghost use Rattle.st_ticks.specs.Tick as tick;
 
 use crate::field::Field;
@@ -37,21 +37,48 @@ fn width(field: &Field) -> usize
 }
 
 /// Appends the fields of a count, with the delimiter between them.
-pub fn put_fields(out: &mut Vec<u8>, fields: &[Field], delimiter: u8, ticks_per_count: u64, count: u64) -> Result<(), OutOfMemory>
+#[tactic(auto, unfolding(crate::specs::SpellingMachine::fields_text))]
+pub fn put_fields(
+    out: &mut Vec<u8>,
+    fields: &[Field],
+    delimiter: u8,
+    ticks_per_count: u64,
+    count: u64,
+) -> Result<(), OutOfMemory>
     requires fields { All IsField fields.now }
     requires tpm { ticks_per_count ≡ span_of_rest fields.now }
-    requires tpm_small { ticks_per_count ≤ 10 ^ 12 }
     requires count { count ≤ 10 ^ 18 }
     ensures { OnOk result (out.new.items ≡ out.old.items ++ fields_text delimiter fields.now count) }
 {
-    let mut span = ticks_per_count;
-    let mut rest = count;
-    for (i, field) in fields.iter().enumerate() {
-        if i > 0 {
-            span /= field.modulus;
-            out.push(delimiter)?;
+    match fields {
+        [first, more @ ..] => {
+            let value = first.offset + count / ticks_per_count;
+            put_padded(out, u128::from(value), width(first))?;
+            put_more_fields(out, more, delimiter, ticks_per_count, count % ticks_per_count)
         }
+        [] => Ok(()),
+    }
+}
+
+/// Appends the fields of a count that stand behind others, each with the delimiter before it.
+fn put_more_fields(
+    out: &mut Vec<u8>,
+    fields: &[Field],
+    delimiter: u8,
+    spans: u64,
+    count: u64,
+) -> Result<(), OutOfMemory>
+    requires fields { All IsField fields.now }
+    requires spans { spans ≡ span fields.now }
+    requires count { count ≤ 10 ^ 18 }
+    ensures { OnOk result (out.new.items ≡ out.old.items ++ more_text delimiter fields.now count) }
+{
+    let mut span = spans;
+    let mut rest = count;
+    for field in fields {
+        span /= field.modulus;
         let value = field.offset + rest / span;
+        out.push(delimiter)?;
         put_padded(out, u128::from(value), width(field))?;
         rest %= span;
     }
