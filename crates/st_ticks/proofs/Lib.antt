@@ -1,5 +1,6 @@
 pub mod CountLaws
 pub mod Cuts
+pub mod FaceLaws
 pub mod FieldLaws
 pub mod FirstLaws
 pub mod JudgeLaws

@@ -6,7 +6,8 @@ ghost use Rattle.st_ticks.specs.Face.{IsFace, tpm};
 ghost use Rattle.st_ticks.specs.Reading.{ReadsClock};
 ghost use Rattle.st_ticks.specs.ReadingMachine as machine;
 ghost use Rattle.st_ticks.specs.ReadingMachine.{clock_of, counted_of, ticked, is_numbered as is_number};
-ghost use Rattle.st_ticks.specs.Tick.{IsCanonical, spelled, count_at};
+ghost use Rattle.st_ticks.specs.Tick as encoded;
+ghost use Rattle.st_ticks.specs.Tick.{IsCanonical, spelled};
 ghost use Rattle.st_ticks.specs.TickMachine as tick;
 ghost use Rattle.st_ticks.specs.TickMachine.{canonical};
 ghost use Rattle.st_ticks.specs.declared.fault.ClockTextFault.{ClockTextFault as TextFault};
@@ -15,7 +16,7 @@ use crate::clock_text::read_parts;
 use crate::count::{are_from_offsets, are_small, count_of};
 use crate::fault::ClockTextFault;
 use crate::field::{Field, Partition};
-use crate::place::{begun, is_numbered, meant_place};
+use crate::place::{begun, count_at, is_numbered, meant_place};
 use crate::spelling::put_fields;
 use st_decimal::{Line, OutOfMemory};
 use st_text::put_padded;
@@ -92,11 +93,12 @@ impl Face {
         ensures value { result ≡ clock_of self.now text.now }
         ensures face { IsFace self.now }
     {
+        let most = self.fields.len();
         let Some(written) = read_parts(text) else {
             return Err(ClockTextFault::Form);
         };
         let count = written.values.count;
-        if count > self.fields.len() {
+        if count > most {
             return Err(ClockTextFault::TooManyFields);
         }
         if !is_numbered(&self.partitions, written.partition) {
@@ -166,10 +168,10 @@ impl Face {
     fn count_of(&self, place: usize, ticks: u64) -> u64
         requires place { place ≡ tick.place_of self.now ticks }
         requires within { ticks ≤ face.total self.now }
-        ensures value { result ≡ count_at self.now place (tick.partition_of self.now ticks) ticks }
+        ensures value { result ≡ encoded.count_at self.now place (tick.partition_of self.now ticks) ticks }
         ensures small { result ≤ 10 ^ 18 }
     {
-        self.partitions[place].start + (ticks - self.begins[place])
+        count_at(&self.partitions, &self.begins, place, ticks)
     }
 
     /// A count in a partition, spelled.

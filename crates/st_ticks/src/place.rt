@@ -1,6 +1,6 @@
 //! The partition of a count and the partition of a tick.
 
-ghost use Rattle.std.specs.Prelude.{◌≡◌, ◌≤◌, ◌<◌, length, IfSome, IsTrue, None, ℕ, nat_le, slice_index};
+ghost use Rattle.std.specs.Prelude.{◌≡◌, ◌≤◌, ◌<◌, length, IfSome, IsTrue, None, ℕ, nat_le, slice_index, ◌+◌, ◌-◌, ◌^◌};
 ghost use Rattle.std.specs.List.Sorted.{IsNonDecreasingBy};
 ghost use Rattle.st_ticks.specs.ReadingMachine as machine;
 
@@ -61,4 +61,15 @@ pub fn begun(begins: &[u64], ticks: u64) -> usize
     ensures after { (i : ℕ) → result ≤ i → i < length begins.now → ticks < slice_index begins.now i }
 {
     begins.partition_point(|begin: &u64| -> bool ensures { result ≡ nat_le begin.now ticks } { *begin <= ticks })
+}
+
+/// The count of a tick in the partition at a place.
+pub fn count_at(partitions: &[Partition], begins: &[u64], place: usize, ticks: u64) -> u64
+    requires here { place < length partitions.now }
+    requires begins { place < length begins.now }
+    requires begun { slice_index begins.now place ≤ ticks }
+    requires small { (machine.partition_at partitions.now place).start + (ticks - slice_index begins.now place) ≤ 10 ^ 18 }
+    ensures { result ≡ (machine.partition_at partitions.now place).start + (ticks - slice_index begins.now place) }
+{
+    partitions[place].start + (ticks - begins[place])
 }
