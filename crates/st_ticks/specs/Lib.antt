@@ -10,4 +10,5 @@ pub mod TextMachine
 pub mod Tick
 pub mod TickMachine
 pub mod ValueList
+pub mod Variables
 pub mod WrittenText

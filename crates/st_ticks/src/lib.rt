@@ -11,6 +11,7 @@ mod place;
 mod spelling;
 mod values;
 mod variable;
+mod whole;
 
 pub use face::Face;
 pub use fault::{ClockTextFault, FaceFault};
