@@ -10,3 +10,4 @@ pub mod ReadingLaws
 pub mod RunLaws
 pub mod SpellingLaws
 pub mod TextLaws
+pub mod WholeLaws

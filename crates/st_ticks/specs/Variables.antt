@@ -4,7 +4,7 @@ use Rattle.std.specs.Prelude.{◌≡◌, ℕ, ℤ, pos, ◌+◌, ◌-◌, ◌*�
 use Rattle.std.specs.List.{All, sum_by}
 use Rattle.st_decimal.specs.Scaling.{IsTimesTen}
 use Rattle.st_decimal.specs.declared.number.Dec.{Dec}
-use Rattle.st_ticks.specs.Face.{Face, span_of_rest, ticks_in}
+use Rattle.st_ticks.specs.Face.{Face, span_of_rest, ticks_in, IsPartition}
 use Rattle.st_ticks.specs.Rules.{AreKept, IsFirstBroken}
 use Rattle.st_ticks.specs.declared.fault.FaceFault.{FaceFault}
 use Rattle.st_ticks.specs.declared.fault.FaceFault.TheVariants.{Bad, OutOfMemory}
@@ -36,14 +36,6 @@ IsWholeNumber d = (z : ℤ) × IsTimesTen d.digits d.tens z
 abbrev pub IsFrom : ℕ → ℕ → Dec → Type 0
 IsFrom low high d = (n : ℕ) × IsNumber n d × (low ≤ n) × (n ≤ high)
 
--- an end from its start to 10^18
-abbrev pub IsSpan : Dec → Dec → Type 0
-IsSpan start end = (m n : ℕ) × IsNumber m start × IsNumber n end × (m ≤ n) × (n ≤ 10 ^ 18)
-
-abbrev pub AreSpans : List Dec → List Dec → Type 0
-AreSpans starts ends =
-    (place : ℕ) (start end : Dec) → slice_get starts place ≡ Some start → slice_get ends place ≡ Some end → IsSpan start end
-
 -- fields with these moduli, each from 1 to 10^18
 abbrev pub HaveModuli : List Dec → List Field → Type 0
 HaveModuli [] [] = Unit {0}
@@ -55,10 +47,10 @@ HaveOffsets [] [] = Unit {0}
 HaveOffsets (o ∷ os) (f ∷ fs) = IsNumber f.offset o × HaveOffsets os fs
 HaveOffsets _ _ = ⊥
 
--- partitions with these starts and ends
+-- partitions with these starts and ends, each end from its start to 10^18
 abbrev pub HaveEnds : List Dec → List Dec → List Partition → Type 0
 HaveEnds [] [] [] = Unit {0}
-HaveEnds (s ∷ ss) (e ∷ es) (p ∷ ps) = IsNumber p.start s × IsNumber p.end e × HaveEnds ss es ps
+HaveEnds (s ∷ ss) (e ∷ es) (p ∷ ps) = IsNumber p.start s × IsNumber p.end e × IsPartition p × HaveEnds ss es ps
 HaveEnds _ _ _ = ⊥
 
 -- the delimiters by their codes from 1 to 5: `.`, `:`, `-`, `,` and a space
@@ -103,7 +95,7 @@ KeepsStart n _ = Unit {0}
 abbrev pub KeepsEnd : Numbers → ClockWhy → Type 0
 KeepsEnd n Count = length n.ends ≡ length n.starts
 KeepsEnd n NotWhole = All IsWholeNumber n.ends
-KeepsEnd n Range = AreSpans n.starts n.ends
+KeepsEnd n Range = (partitions : List Partition) × HaveEnds n.starts n.ends partitions
 KeepsEnd n Product = (partitions : List Partition) × HaveEnds n.starts n.ends partitions × (sum_by ticks_in partitions ≤ 10 ^ 18)
 KeepsEnd n _ = Unit {0}
 
@@ -123,7 +115,7 @@ Keeps n fault = KeepsOf n fault.var fault.why
 abbrev pub rule : ClockVar → ClockWhy → ClockFault
 rule var why = record { var = var; why = why }
 
--- all rules but the last, in the order in which they are looked at
+-- the rules that are looked at before the ends are read, in their order
 abbrev pub first_rules : List ClockFault
 first_rules =
     rule NFields NotOne ∷ rule NFields NotWhole ∷ rule NFields Range
@@ -131,10 +123,11 @@ first_rules =
     ∷ rule Offsets Count ∷ rule Offsets NotWhole ∷ rule Offsets Range
     ∷ rule Delim NotOne ∷ rule Delim Range
     ∷ rule Start Count ∷ rule Start NotWhole ∷ rule Start Range
-    ∷ rule End Count ∷ rule End NotWhole ∷ rule End Range ∷ []
+    ∷ rule End Count ∷ rule End NotWhole ∷ []
 
+-- all rules
 abbrev pub face_rules : List ClockFault
-face_rules = first_rules ++ (rule End Product ∷ [])
+face_rules = first_rules ++ (rule End Range ∷ rule End Product ∷ [])
 
 -- the face has what the variables say
 pub record IsMadeOf (n : Numbers) (face : Face) : Type 0 where

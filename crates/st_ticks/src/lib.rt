@@ -7,6 +7,7 @@ mod cut;
 mod face;
 mod fault;
 mod field;
+mod numbers;
 mod place;
 mod spelling;
 mod values;

@@ -1,7 +1,8 @@
 //! Decimals that are whole numbers.
 
-ghost use Rattle.std.specs.Prelude.{◌≡◌, ◌≤◌, ◌^◌, ◌↔◌, ℕ, IsTrue, IfSome, Some};
+ghost use Rattle.std.specs.Prelude.{◌≡◌, ◌≤◌, ◌^◌, ◌↔◌, ℕ, ℤ, IsTrue, IfSome, Some};
 ghost use Rattle.std.specs.List.{All};
+ghost use Rattle.st_decimal.specs.Scaling.{IsTimesTen};
 ghost use Rattle.st_ticks.specs.Variables.{IsNumber, IsWholeNumber, IsFrom};
 
 use st_decimal::Dec;
@@ -16,14 +17,25 @@ const MOST_PLACES: u32 = 38;
 fn is_whole(d: Dec) -> bool
     ensures { IsTrue result ↔ IsWholeNumber d }
 {
-    if d.digits == 0 || d.tens >= 0 {
+    is_scaled_whole(d.digits, d.tens)
+}
+
+/// Whether digits times ten to a power are a whole number.
+fn is_scaled_whole(digits: i128, tens: i32) -> bool
+    ensures { IsTrue result ↔ ((z : ℤ) × IsTimesTen digits tens z) }
+{
+    let size = digits.unsigned_abs();
+    if size == 0 {
         return true;
     }
-    let places = d.tens.unsigned_abs();
+    if tens >= 0 {
+        return true;
+    }
+    let places = tens.unsigned_abs();
     if places > MOST_PLACES {
         return false;
     }
-    d.digits.unsigned_abs() % 10u128.pow(places) == 0
+    size % 10u128.pow(places) == 0
 }
 
 /// Whether all decimals are whole numbers.

@@ -1,0 +1,19 @@
+use Rattle.std.proofs.Common.{◌≡◌, ℕ, pos, ◌+◌, ◌≤◌, Bool, true, List, length, take, get_or, refl, sym, arith}
+use Rattle.std.specs.List.{All}
+use Rattle.std.proofs.lemmas.List.{take_all}
+use Rattle.std.proofs.lemmas.List.Elements.{All-more, All-same}
+use Rattle.st_decimal.specs.declared.number.Dec.{Dec}
+use Rattle.st_ticks.specs.Variables.{IsFrom}
+use Rattle.st_ticks.proofs.whole.are_from.Goals as goal
+
+abbrev none : Dec
+none = record { digits = pos 0; tens = pos 0 }
+
+pub loop-value-preserved : goal.loop-value-preserved
+loop-value-preserved c =
+    All-more (IsFrom c.args.low c.args.high) c.args.values.now c.loop-value.value-index none (omega arith) c.loop-value.invariant (c.is_from.ensures.0 c.if-not-is_from.false)
+
+pub returns : goal.returns
+returns c =
+    let whole = All-same (IsFrom c.args.low c.args.high) c.args.values.now (take c.loop-value.value-index c.args.values.now) (sym (take_all c.loop-value.value-index c.args.values.now (omega arith))) c.loop-value.invariant in
+    (λ t. whole, λ w. refl)
