@@ -1,3 +1,4 @@
+pub mod CanonicalLaws
 pub mod CountLaws
 pub mod Cuts
 pub mod FaceLaws

@@ -2,6 +2,7 @@ pub mod ClockText
 pub mod Face
 pub mod FaceParts
 pub mod Laws
+pub mod MakingMachine
 pub mod NumbersMachine
 pub mod Reading
 pub mod ReadingMachine

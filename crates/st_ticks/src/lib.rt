@@ -7,6 +7,8 @@ mod cut;
 mod face;
 mod fault;
 mod field;
+pub mod laws;
+mod make;
 mod numbers;
 mod place;
 mod spelling;

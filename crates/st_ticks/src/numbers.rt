@@ -153,7 +153,7 @@ fn are_as_many(n_fields: &[Dec], values: &[Dec]) -> bool
     ensures { IsTrue result ↔ All (IsNumber (length values.now)) n_fields.now }
 {
     let many = values.len() as u64;
-    many <= MOST && are_from(n_fields, many, many)
+    are_from(n_fields, many, many)
 }
 
 fn keeps_moduli(numbers: &Numbers, why: ClockWhy) -> bool
