@@ -5,9 +5,11 @@ pub mod FaceLaws
 pub mod FieldLaws
 pub mod FirstLaws
 pub mod JudgeLaws
+pub mod MakingLaws
 pub mod PartitionLaws
 pub mod PartsLaws
 pub mod ReadingLaws
+pub mod RuleLaws
 pub mod RunLaws
 pub mod SpellingLaws
 pub mod TextLaws
