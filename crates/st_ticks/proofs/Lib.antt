@@ -5,12 +5,14 @@ pub mod FaceLaws
 pub mod FieldLaws
 pub mod FirstLaws
 pub mod JudgeLaws
+pub mod MadeLaws
 pub mod MakingLaws
 pub mod PartitionLaws
 pub mod PartsLaws
 pub mod ReadingLaws
 pub mod RuleLaws
 pub mod RunLaws
+pub mod SoundLaws
 pub mod SpellingLaws
 pub mod TextLaws
 pub mod WholeLaws

@@ -14,11 +14,14 @@ ghost use Rattle.st_ticks.specs.declared.fault.ClockTextFault.{ClockTextFault as
 
 use crate::clock_text::read_parts;
 use crate::count::{are_from_offsets, are_small, count_of};
-use crate::fault::ClockTextFault;
+use crate::fault::{ClockTextFault, FaceFault};
 use crate::field::{Field, Partition};
+use crate::make::{begins_of, delimiter_of, fields_of, number, partitions_of, rest_span, total_of};
+use crate::numbers::{Numbers, first_broken};
 use crate::place::{begun, count_at, is_numbered, meant_place};
 use crate::spelling::put_fields;
-use st_decimal::{Line, OutOfMemory};
+use crate::variable::{ClockFault, ClockVar, ClockWhy};
+use st_decimal::{Dec, Line, OutOfMemory};
 use st_text::put_padded;
 use std::alloc::Global;
 use std::marker::Model;
@@ -55,6 +58,71 @@ impl Model for Face {
 }
 
 impl Face {
+    ghost use Rattle.st_ticks.specs.NumbersMachine.{numbers_of};
+    ghost use Rattle.st_ticks.specs.Rules.{AreKept};
+    ghost use Rattle.st_ticks.specs.Variables.{Keeps, MakesFace, first_rules};
+
+    /// The face that the values of six variables of a clock describe: `SCLK01_N_FIELDS_n`,
+    /// `SCLK01_MODULI_n`, `SCLK01_OFFSETS_n`, `SCLK01_OUTPUT_DELIM_n`, `SCLK_PARTITION_START_n` and
+    /// `SCLK_PARTITION_END_n`, as NAIF's SCLK Required Reading has them.
+    ///
+    /// # Errors
+    ///
+    /// The first fault of the variables, in their order, or want of memory.
+    pub fn from_parts(
+        alloc: Global,
+        n_fields: &[Dec],
+        moduli: &[Dec],
+        offsets: &[Dec],
+        delim: &[Dec],
+        starts: &[Dec],
+        ends: &[Dec],
+    ) -> Result<Face, FaceFault>
+        ensures makes { MakesFace (record {
+            n_fields = n_fields.now; moduli = moduli.now; offsets = offsets.now;
+            delim = delim.now; starts = starts.now; ends = ends.now;
+        }) result }
+    {
+        let numbers = Numbers {
+            n_fields,
+            moduli,
+            offsets,
+            delim,
+            starts,
+            ends,
+        };
+        if let Some(fault) = first_broken(&numbers) {
+            return Err(FaceFault::Bad(fault));
+        }
+        Face::make(alloc, &numbers)
+    }
+
+    /// The face of numbers that keep all rules but perhaps those on the ends.
+    fn make(alloc: Global, numbers: &Numbers) -> Result<Face, FaceFault>
+        requires { AreKept (Keeps (numbers_of numbers.now)) first_rules }
+        ensures { MakesFace (numbers_of numbers.now) result }
+    {
+        let fields = fields_of(alloc, numbers.moduli, numbers.offsets)?;
+        let partitions = partitions_of(alloc, numbers.starts, numbers.ends)?;
+        let Some(total) = total_of(&partitions) else {
+            return Err(FaceFault::Bad(ClockFault {
+                var: ClockVar::End,
+                why: ClockWhy::Product,
+            }));
+        };
+        let begins = begins_of(alloc, &partitions)?;
+        let ticks_per_count = rest_span(&fields);
+        let delimiter = delimiter_of(number(numbers.delim[0]));
+        Ok(Face {
+            fields,
+            delimiter,
+            partitions,
+            begins,
+            ticks_per_count,
+            total,
+        })
+    }
+
     /// The ticks of all partitions.
     pub fn total(&self) -> u64
         ensures value { result ≡ face.total self.now }
