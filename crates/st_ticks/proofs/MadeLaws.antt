@@ -71,3 +71,9 @@ product_fault n ps h e l = record {
 
 pub makes : (n : Numbers) (face : Face) (ps : List Partition) → AreEarlyKept n → HaveEnds n.starts n.ends ps → sum_by ticks_in ps ≤ 10 ^ 18 → IsMadeOf n face → MakesFace n (Ok face)
 makes n face ps h e l m = (kept-append (Keeps n) first_rules late_rules h ((ps, e), ((ps, e, l), tt)), m)
+
+pub all_of_one : (P : Dec → Type 0) (ds : List Dec) (d : Dec) → length ds ≡ 1 → P (get_or ds 0 d) → All P ds
+all_of_one P ds d l h = All-from_get_or P ds d (λ i k. subst (λ (j : ℕ). P (get_or ds j d)) (zero_is i k) h)
+  where
+    zero_is : (i : ℕ) → i < length ds → 0 ≡ i
+    zero_is i k = omega (arith, l, k)
