@@ -7,6 +7,7 @@ pub mod FirstLaws
 pub mod JudgeLaws
 pub mod MadeLaws
 pub mod MakingLaws
+pub mod OnlyLaws
 pub mod PartitionLaws
 pub mod PartsLaws
 pub mod ReadingLaws

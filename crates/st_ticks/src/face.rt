@@ -58,6 +58,10 @@ impl Model for Face {
 }
 
 impl Face {
+    ghost use Rattle.std.specs.Prelude.{◌⊎◌, Err};
+    ghost use Rattle.st_ticks.specs.Face.{Face as Seen};
+    ghost use Rattle.st_ticks.specs.declared.fault.FaceFault.{FaceFault as Fault};
+    ghost use Rattle.st_ticks.specs.declared.fault.FaceFault.TheVariants.{OutOfMemory as NoMemory};
     ghost use Rattle.st_ticks.specs.NumbersMachine.{numbers_of};
     ghost use Rattle.st_ticks.specs.Rules.{AreKept};
     ghost use Rattle.st_ticks.specs.Variables.{Keeps, MakesFace, first_rules};
@@ -82,6 +86,11 @@ impl Face {
             n_fields = n_fields.now; moduli = moduli.now; offsets = offsets.now;
             delim = delim.now; starts = starts.now; ends = ends.now;
         }) result }
+        // No other answer meets it, unless memory was refused.
+        ensures only { (answer : Result Seen Fault) → MakesFace (record {
+            n_fields = n_fields.now; moduli = moduli.now; offsets = offsets.now;
+            delim = delim.now; starts = starts.now; ends = ends.now;
+        }) answer → (result ≡ answer) ⊎ ((result ≡ Err NoMemory) ⊎ (answer ≡ Err NoMemory)) }
     {
         let numbers = Numbers {
             n_fields,
@@ -91,10 +100,16 @@ impl Face {
             starts,
             ends,
         };
-        if let Some(fault) = first_broken(&numbers) {
+        Face::made(alloc, &numbers)
+    }
+
+    fn made(alloc: Global, numbers: &Numbers) -> Result<Face, FaceFault>
+        ensures { MakesFace (numbers_of numbers.now) result }
+    {
+        if let Some(fault) = first_broken(numbers) {
             return Err(FaceFault::Bad(fault));
         }
-        Face::make(alloc, &numbers)
+        Face::make(alloc, numbers)
     }
 
     /// The face of numbers that keep all rules but perhaps those on the ends.

@@ -1,5 +1,11 @@
-use Rattle.st_ticks.proofs.MadeLaws.{early_fault}
+use Rattle.st_ticks.specs.Variables.{Numbers}
+use Rattle.st_ticks.proofs.OnlyLaws.{makes_one}
 use Rattle.st_ticks.proofs.face.Face.from_parts.Goals as goal
 
-pub returns-in-Some : goal.returns-in-Some
-returns-in-Some c = early_fault _ c.in-Some.fault c.in-Some.ensures
+pub returns-clause-only : goal.returns-clause-only
+returns-clause-only c = λ answer h.
+    let n : Numbers = record {
+      n_fields = c.args.n_fields.now; moduli = c.args.moduli.now; offsets = c.args.offsets.now;
+      delim = c.args.delim.now; starts = c.args.starts.now; ends = c.args.ends.now;
+    } in
+    makes_one n c.made.result answer c.made.ensures h
