@@ -54,9 +54,14 @@ fields_spelled : (d : ℕ) (fs : List Field) (n : ℕ) → IsDelimiter d → 1 �
 fields_spelled d [] n h l = absurd (omega arith)
 fields_spelled d (f ∷ []) n h l = (field_run f (f.offset + n / 1), refl)
 fields_spelled d (f ∷ g ∷ fs) n h l =
-    let rest : ℕ = n % span (g ∷ fs) in
-    ( d ∷ [], join_with_byte d (field_texts (g ∷ fs) (fields_of (g ∷ fs) rest)), field_run f (f.offset + n / span (g ∷ fs)), separates d h
-    , fields_spelled d (g ∷ fs) rest h (omega arith), refl )
+    let rest : ℕ = n % span (g ∷ fs) in (
+      d ∷ [],
+      join_with_byte d (field_texts (g ∷ fs) (fields_of (g ∷ fs) rest)),
+      field_run f (f.offset + n / span (g ∷ fs)),
+      separates d h,
+      fields_spelled d (g ∷ fs) rest h (omega arith),
+      refl,
+    )
 
 -- and their values are those of the count
 values_printed : (fs : List Field) (n : ℕ) → map number_of (field_texts fs (fields_of fs n)) ≡ fields_of fs n
@@ -95,13 +100,20 @@ spells_at face place n h =
     let number : List ℕ = decimal_digits (suc place) in
     let fields : List ℕ = join_with_byte face.delimiter (field_texts face.fields (fields_of face.fields n)) in
     record {
-      front = []; partition = number ++ (47 ∷ []); fields = fields; back = [];
-      blanks_front = refl; blanks_back = refl;
-      partition_is =
-        ( [], [], 47 ∷ []
-        , record { digits = are_digits-padded 1 (suc place); some = omega (arith, some_decimal (suc place)) }
-        , record { blanks_before = refl; blanks_after = refl; whole = refl }
-        , refl );
+      front = [];
+      partition = number ++ (47 ∷ []);
+      fields = fields;
+      back = [];
+      blanks_front = refl;
+      blanks_back = refl;
+      partition_is = (
+        [],
+        [],
+        47 ∷ [],
+        record { digits = are_digits-padded 1 (suc place); some = omega (arith, some_decimal (suc place)) },
+        record { blanks_before = refl; blanks_after = refl; whole = refl },
+        refl,
+      );
       fields_are = fields_spelled face.delimiter face.fields n h.delimiter h.some_fields;
       whole = sym (append_assoc number (47 ∷ []) (fields ++ []) ∙ ap (λ (x : List ℕ). number ++ (47 ∷ x)) (append-nil fields));
     }
@@ -117,14 +129,23 @@ good_at face place n p h e s t l i =
     let number : number_of (decimal_digits (suc place)) ≡ suc place = number_of-padded 1 (suc place) in
     let same : count face (parts_at face place n) ≡ n = counts_at face place n h in
     let meant : IsMeant face (Some (decimal_digits (suc place))) (count face (parts_at face place n)) place =
-        (omega (arith, number), record { partition = p; here = e; from = omega (arith, same, s); to = omega (arith, same, t) }) in
-    let printed = values_printed face.fields n in
-    ( meant
-    , ( omega (arith, many_printed face.fields n)
-      , ( (omega (arith, number), omega (arith, number, i))
-        , ( subst (λ (vs : List ℕ). AreFromOffsets face.fields vs) (sym printed) (from_offsets face.fields n)
-          , ( (subst (λ (vs : List ℕ). All IsSmall vs) (sym printed) (values_small face.fields n h.fields l), omega (arith, same, l))
-            , ((place, meant), tt) ) ) ) ) )
+    (omega (arith, number), record { partition = p; here = e; from = omega (arith, same, s); to = omega (arith, same, t) }) in
+    let printed = values_printed face.fields n in (
+      meant,
+      (
+        omega (arith, many_printed face.fields n),
+        (
+          (omega (arith, number), omega (arith, number, i)),
+          (
+            subst (λ (vs : List ℕ). AreFromOffsets face.fields vs) (sym printed) (from_offsets face.fields n),
+            (
+              (subst (λ (vs : List ℕ). All IsSmall vs) (sym printed) (values_small face.fields n h.fields l), omega (arith, same, l)),
+              ((place, meant), tt),
+            ),
+          ),
+        ),
+      ),
+    )
 
 tick_back : (e k s c : ℕ) → e ≤ k → c ≡ s + (k - e) → k ≡ e + (c - s)
 tick_back e k s c h f = omega arith

@@ -147,9 +147,9 @@ place_found face begins k n b some bound before after =
     let here : get_or begins (n - 1) 0 ≤ k = before (n - 1) (omega arith) in
     let is : get_or begins (n - 1) 0 ≡ earlier face (n - 1) = begin_at face begins (n - 1) 0 b (omega arith) in
     let last : (later : ℕ) → n - 1 < later → later < length face.partitions → k < earlier face later = λ later l m.
-        let above : k < get_or begins later 0 = after later (omega arith) (omega arith) in
-        let same : get_or begins later 0 ≡ earlier face later = begin_at face begins later 0 b (omega arith) in
-        omega arith
+    let above : k < get_or begins later 0 = after later (omega arith) (omega arith) in
+    let same : get_or begins later 0 ≡ earlier face later = begin_at face begins later 0 b (omega arith) in
+    omega arith
     in
     partition_is_one face k (n - 1) (place_of face k) (record { there = omega arith; begun = omega arith; last = last }) (place_of_is face k some)
 
@@ -162,15 +162,18 @@ canonical_is_one face k text h = (forth, back)
   where
     is_place : IsPartitionOf face k (place_of face k)
     is_place = place_of_is face k h.some_partitions
+
     same : (i j : ℕ) (p q : Partition) → i ≡ j → slice_get face.partitions i ≡ Some p → slice_get face.partitions j ≡ Some q
         → spelled face i (count_at face i p k) ≡ spelled face j (count_at face j q k)
     same i j p q e f g =
         let alike : p ≡ q = same_element face.partitions j p q (subst (λ (x : ℕ). slice_get face.partitions x ≡ Some p) e f) g in
         ap (λ (x : ℕ). spelled face x (count_at face x p k)) e ∙ ap (λ (r : Partition). spelled face j (count_at face j r k)) alike
+
     forth : IsCanonical face k text → text ≡ canonical face k
     forth c =
         c.whole ∙ same c.place (place_of face k) c.partition (partition_of face k)
         (partition_is_one face k c.place (place_of face k) c.of_tick is_place) c.here (at_place face k h.some_partitions)
+
     back : text ≡ canonical face k → IsCanonical face k text
     back e = record { place = place_of face k; partition = partition_of face k; of_tick = is_place; here = at_place face k h.some_partitions; whole = e }
 

@@ -45,9 +45,10 @@ le_capped o n k h =
 pub from_offsets_yes : (fs : List Field) (ds : List (List ℕ)) → from_offsets fs (capped_values ds) ≡ true → AreFromOffsets fs (map number_of ds)
 from_offsets_yes [] ds h = tt
 from_offsets_yes (f ∷ fs) [] h = tt
-from_offsets_yes (f ∷ fs) (d ∷ ds) h =
-    ( capped_le f.offset (number_of d) (head_passes (nat_le f.offset (capped d)) (from_offsets fs (capped_values ds)) h)
-    , from_offsets_yes fs ds (tail_passes (nat_le f.offset (capped d)) (from_offsets fs (capped_values ds)) h) )
+from_offsets_yes (f ∷ fs) (d ∷ ds) h = (
+  capped_le f.offset (number_of d) (head_passes (nat_le f.offset (capped d)) (from_offsets fs (capped_values ds)) h),
+  from_offsets_yes fs ds (tail_passes (nat_le f.offset (capped d)) (from_offsets fs (capped_values ds)) h),
+)
 
 pub from_offsets_sure : (fs : List Field) (ds : List (List ℕ)) → All IsField fs → AreFromOffsets fs (map number_of ds) → from_offsets fs (capped_values ds) ≡ true
 from_offsets_sure [] ds a h = refl
@@ -160,9 +161,10 @@ meant_yes face (Some d) n place l k h =
           let same : Some (capped d - 1) ≡ Some place = rw y at h in
           let is : capped d - 1 ≡ place = cc in
           let whole : capped d ≡ number_of d = not_capped (number_of d) (omega (arith, k.1)) in
-          let inside : place < length face.partitions = omega (arith, k.0, k.1) in
-          ( omega (arith, k.0)
-          , contains_at face place n inside (subst (λ (i : ℕ). has_count n (partition_at face.partitions i) ≡ true) is y) )
+          let inside : place < length face.partitions = omega (arith, k.0, k.1) in (
+            omega (arith, k.0),
+            contains_at face place n inside (subst (λ (i : ℕ). has_count n (partition_at face.partitions i) ≡ true) is y),
+          )
       | inr y ↦ absurd (let none : ◌≡◌ {A = Option ℕ} None (Some place) = rw y at h in cc)
     ]
 
@@ -196,7 +198,10 @@ answered face p a b e o = subst (λ (r : Result ℕ ClockTextFault). Outcome fac
 
 too_many : (face : Face) (p : Parts) → length face.fields < length p.fields → Outcome face p (Err TooManyFields)
 too_many face p l = record {
-  before = []; after = NoPartition ∷ FieldBelowOffset ∷ TooLarge ∷ NotInPartition ∷ []; stands = refl; kept = tt;
+  before = [];
+  after = NoPartition ∷ FieldBelowOffset ∷ TooLarge ∷ NotInPartition ∷ [];
+  stands = refl;
+  kept = tt;
   broken = λ k. absurd (omega (arith, k));
 }
 
@@ -205,24 +210,40 @@ FewFields face p = length p.fields ≤ length face.fields
 
 no_partition : (face : Face) (p : Parts) → FewFields face p → (IsNumbered face p.partition → ⊥) → Outcome face p (Err NoPartition)
 no_partition face p l b = record {
-  before = TooManyFields ∷ []; after = FieldBelowOffset ∷ TooLarge ∷ NotInPartition ∷ []; stands = refl; kept = (l, tt); broken = b;
+  before = TooManyFields ∷ [];
+  after = FieldBelowOffset ∷ TooLarge ∷ NotInPartition ∷ [];
+  stands = refl;
+  kept = (l, tt);
+  broken = b;
 }
 
 below_offset : (face : Face) (p : Parts) → FewFields face p → IsNumbered face p.partition → (AreFromOffsets face.fields (values p) → ⊥) → Outcome face p (Err FieldBelowOffset)
 below_offset face p l n b = record {
-  before = TooManyFields ∷ NoPartition ∷ []; after = TooLarge ∷ NotInPartition ∷ []; stands = refl; kept = (l, (n, tt)); broken = b;
+  before = TooManyFields ∷ NoPartition ∷ [];
+  after = TooLarge ∷ NotInPartition ∷ [];
+  stands = refl;
+  kept = (l, (n, tt));
+  broken = b;
 }
 
 too_large : (face : Face) (p : Parts) → FewFields face p → IsNumbered face p.partition → AreFromOffsets face.fields (values p)
     → (Keeps face p TooLarge → ⊥) → Outcome face p (Err TooLarge)
 too_large face p l n o b = record {
-  before = TooManyFields ∷ NoPartition ∷ FieldBelowOffset ∷ []; after = NotInPartition ∷ []; stands = refl; kept = (l, (n, (o, tt))); broken = b;
+  before = TooManyFields ∷ NoPartition ∷ FieldBelowOffset ∷ [];
+  after = NotInPartition ∷ [];
+  stands = refl;
+  kept = (l, (n, (o, tt)));
+  broken = b;
 }
 
 not_in_partition : (face : Face) (p : Parts) → FewFields face p → IsNumbered face p.partition → AreFromOffsets face.fields (values p) → Keeps face p TooLarge
     → (Keeps face p NotInPartition → ⊥) → Outcome face p (Err NotInPartition)
 not_in_partition face p l n o s b = record {
-  before = TooManyFields ∷ NoPartition ∷ FieldBelowOffset ∷ TooLarge ∷ []; after = []; stands = refl; kept = (l, (n, (o, (s, tt)))); broken = b;
+  before = TooManyFields ∷ NoPartition ∷ FieldBelowOffset ∷ TooLarge ∷ [];
+  after = [];
+  stands = refl;
+  kept = (l, (n, (o, (s, tt))));
+  broken = b;
 }
 
 -- what is left once the values are small
@@ -233,7 +254,7 @@ judged_place face p n None h e l k f s m =
     (λ w. meant_no face p.partition n h.few_partitions k m w.0 (subst (λ (c : ℕ). IsMeant face p.partition c w.0) (sym e) w.1))
 judged_place face p n (Some place) h e l k f s m =
     let meant : IsMeant face p.partition (count face p) place =
-        subst (λ (c : ℕ). IsMeant face p.partition c place) e (meant_yes face p.partition n place h.few_partitions k m) in
+    subst (λ (c : ℕ). IsMeant face p.partition c place) e (meant_yes face p.partition n place h.few_partitions k m) in
     let inside = meant_inside face p.partition (count face p) place meant in
     ((l, (k, (f, (s, ((place, meant), tt))))), ticked_yes face p n place e meant inside)
   where

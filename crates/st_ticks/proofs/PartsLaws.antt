@@ -48,15 +48,18 @@ partitioned_at t d u some e same =
     let s = slash_parts (skip_blanks (past_digits t)) u e in
     record {
       text = d ++ (cut.0 ++ (47 ∷ s.0));
-      spells =
-        ( cut.0, s.0, cut.0 ++ (47 ∷ s.0)
-        , record { digits = ap are_digits (sym same) ∙ digits_are t; some = subst (λ (x : List ℕ). 0 < length x) same some }
-        , record { blanks_before = cut.1; blanks_after = s.1; whole = refl }
-        , refl );
+      spells = (
+        cut.0,
+        s.0,
+        cut.0 ++ (47 ∷ s.0),
+        record { digits = ap are_digits (sym same) ∙ digits_are t; some = subst (λ (x : List ℕ). 0 < length x) same some },
+        record { blanks_before = cut.1; blanks_after = s.1; whole = refl },
+        refl,
+      );
       whole =
-        sym (joined t) ∙ ap (λ (x : List ℕ). x ++ past_digits t) same
-        ∙ ap (λ (x : List ℕ). d ++ x) (cut.2 ∙ ap (λ (x : List ℕ). cut.0 ++ x) s.2)
-        ∙ ap (λ (x : List ℕ). d ++ x) (sym (append_assoc cut.0 (47 ∷ s.0) u)) ∙ sym (append_assoc d (cut.0 ++ (47 ∷ s.0)) u);
+          sym (joined t) ∙ ap (λ (x : List ℕ). x ++ past_digits t) same
+          ∙ ap (λ (x : List ℕ). d ++ x) (cut.2 ∙ ap (λ (x : List ℕ). cut.0 ++ x) s.2)
+          ∙ ap (λ (x : List ℕ). d ++ x) (sym (append_assoc cut.0 (47 ∷ s.0) u)) ∙ sym (append_assoc d (cut.0 ++ (47 ∷ s.0)) u);
     }
 
 partitioned : (t d u : List ℕ) → partition_in t ≡ Some (d, u) → Partitioned t d u
@@ -88,8 +91,14 @@ spelled_alone : (text : List ℕ) (fields : List (List ℕ)) → Fielded fields 
 spelled_alone text fields f =
     let cut = skipped text in
     record {
-      front = cut.0; partition = []; fields = f.body; back = f.back;
-      blanks_front = cut.1; blanks_back = f.blanks; partition_is = refl; fields_are = f.spells;
+      front = cut.0;
+      partition = [];
+      fields = f.body;
+      back = f.back;
+      blanks_front = cut.1;
+      blanks_back = f.blanks;
+      partition_is = refl;
+      fields_are = f.spells;
       whole = cut.2 ∙ ap (λ (x : List ℕ). cut.0 ++ x) f.whole;
     }
 
@@ -98,8 +107,14 @@ spelled_with : (text d u : List ℕ) (fields : List (List ℕ)) → Partitioned 
 spelled_with text d u fields p f =
     let cut = skipped text in
     record {
-      front = cut.0; partition = p.text; fields = f.body; back = f.back;
-      blanks_front = cut.1; blanks_back = f.blanks; partition_is = p.spells; fields_are = f.spells;
+      front = cut.0;
+      partition = p.text;
+      fields = f.body;
+      back = f.back;
+      blanks_front = cut.1;
+      blanks_back = f.blanks;
+      partition_is = p.spells;
+      fields_are = f.spells;
       whole = cut.2 ∙ ap (λ (x : List ℕ). cut.0 ++ x) (p.whole ∙ ap (λ (x : List ℕ). p.text ++ x) f.whole);
     }
 
@@ -144,7 +159,7 @@ read_spelled (Some d) fields front written body back text f b p h w =
     let starts : Starts (body ++ back) = starts_more body back (fields_start fields body h) in
     let behind = slash_behind p.0 p.1 (body ++ back) s.blanks_before s.blanks_after starts in
     let slash : p.2 ++ (body ++ back) ≡ p.0 ++ (47 ∷ (p.1 ++ (body ++ back))) =
-        ap (λ (x : List ℕ). x ++ (body ++ back)) s.whole ∙ append_assoc p.0 (47 ∷ p.1) (body ++ back) in
+    ap (λ (x : List ℕ). x ++ (body ++ back)) s.whole ∙ append_assoc p.0 (47 ∷ p.1) (body ++ back) in
     read_with front d (p.0 ++ (47 ∷ (p.1 ++ (body ++ back)))) body back text fields f b p.3 behind.0 behind.1 h
     (w ∙ ap (λ (x : List ℕ). front ++ (x ++ (body ++ back))) p.5 ∙ ap (λ (x : List ℕ). front ++ x) (append_assoc d p.2 (body ++ back))
     ∙ ap (λ (x : List ℕ). front ++ (d ++ x)) slash)

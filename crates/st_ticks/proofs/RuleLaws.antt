@@ -56,10 +56,11 @@ HasSpan ms n = (fs : List Field) × HaveModuli ms fs × (n ≡ span fs)
 
 pub some_rest : (ms : List Dec) (q n a b : ℕ) → 1 ≤ length ms → IsNumber q (get_or ms 0 no_dec) → 1 ≤ q → q ≤ 10 ^ 18 → a ≡ q → b ≡ n → HasSpan (rest_of ms) n → HasSpan ms (a * b)
 some_rest [] q n a b l i lo hi e f h = absurd (omega arith)
-some_rest (m ∷ ms) q n a b l i lo hi e f h =
-    ( record { modulus = q; offset = 0 } ∷ h.0
-    , (i, lo, hi, subst (λ (xs : List Dec). HaveModuli xs h.0) (rest_is m ms) h.1)
-    , ap (λ (x : ℕ). x * b) e ∙ ap (λ (x : ℕ). q * x) (f ∙ h.2) )
+some_rest (m ∷ ms) q n a b l i lo hi e f h = (
+  record { modulus = q; offset = 0 } ∷ h.0,
+  (i, lo, hi, subst (λ (xs : List Dec). HaveModuli xs h.0) (rest_is m ms) h.1),
+  ap (λ (x : ℕ). x * b) e ∙ ap (λ (x : ℕ). q * x) (f ∙ h.2),
+)
 
 pub large_rest : (ms : List Dec) (t : ℕ) → HasSpan ms t → 10 ^ 12 < t → (fs : List Field) → HaveModuli ms fs → span fs ≤ 10 ^ 12 → ⊥
 large_rest ms t h l fs k s = absurd (omega (arith, h.2, span_is_one ms h.0 fs h.1 k))
@@ -73,13 +74,15 @@ pub has_product : (ms : List Dec) (m o : Option ℕ) → 1 ≤ length ms → is_
     × (((fs : List Field) × HaveModuli ms fs × (span_of_rest fs ≤ 10 ^ 12)) → IsTrue (is_some o))
 has_product [] m o l t i lo hi s b n = absurd (omega arith)
 has_product (d ∷ ms) None o l t i lo hi s b n = absurd (cc)
-has_product (d ∷ ms) (Some q) (Some k) l t i lo hi s b n =
-    ( λ h. (record { modulus = q; offset = 0 } ∷ s.0, (i, lo, hi, subst (λ (xs : List Dec). HaveModuli xs s.0) (rest_is d ms) s.1), omega (arith, s.2, b))
-    , λ h. refl )
+has_product (d ∷ ms) (Some q) (Some k) l t i lo hi s b n = (
+  λ h. (record { modulus = q; offset = 0 } ∷ s.0, (i, lo, hi, subst (λ (xs : List Dec). HaveModuli xs s.0) (rest_is d ms) s.1), omega (arith, s.2, b)),
+  λ h. refl,
+)
 has_product (d ∷ ms) (Some q) None l t i lo hi s b n = (λ h. absurd (false_true h), λ h. absurd (no_fields h.0 h.1 h.2))
   where
     false_true : IsTrue (is_some {T = ℕ} None) → ⊥
     false_true e = absurd (let f : false ≡ true = e in cc)
+
     no_fields : (fs : List Field) → HaveModuli (d ∷ ms) fs → span_of_rest fs ≤ 10 ^ 12 → ⊥
     no_fields [] h k = h
     no_fields (f ∷ fs) h k = n fs (subst (λ (xs : List Dec). HaveModuli xs fs) (sym (rest_is d ms)) h.3) k

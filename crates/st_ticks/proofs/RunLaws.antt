@@ -113,11 +113,11 @@ is_last t d e =
     elim (cases_Bool (length (digits t) == 0)) [
       | inl z ↦ absurd (let no : stop ≡ last d = rw z at e in cc)
       | inr z ↦ elim (cases_Bool (are_blanks (past_digits t))) [
-          | inl h ↦
-              let same = same_last (digits t) d (rw (z, h) at e) in
-              record { some = rw (sym same) at (some_digits (digits t) z); field = same; blanks = h }
-          | inr h ↦ absurd (last_at t d (digits t) (past_separator (past_digits t)) (rw (z, h) at e))
-        ]
+        | inl h ↦
+            let same = same_last (digits t) d (rw (z, h) at e) in
+            record { some = rw (sym same) at (some_digits (digits t) z); field = same; blanks = h }
+        | inr h ↦ absurd (last_at t d (digits t) (past_separator (past_digits t)) (rw (z, h) at e))
+      ]
     ]
 
 more_at : (f d u : List ℕ) (o : Option (List ℕ)) → next_before f o ≡ more d u → (d ≡ f) × (o ≡ Some u)
@@ -130,11 +130,11 @@ is_more t d u e =
     elim (cases_Bool (length (digits t) == 0)) [
       | inl z ↦ absurd (let no : stop ≡ more d u = rw z at e in cc)
       | inr z ↦ elim (cases_Bool (are_blanks (past_digits t))) [
-          | inl h ↦ absurd (let no : last (digits t) ≡ more d u = rw (z, h) at e in cc)
-          | inr h ↦
-              let same = more_at (digits t) d u (past_separator (past_digits t)) (rw (z, h) at e) in
-              record { some = rw (sym same.0) at (some_digits (digits t) z); field = same.0; no_blanks = h; rest = same.1 }
-        ]
+        | inl h ↦ absurd (let no : last (digits t) ≡ more d u = rw (z, h) at e in cc)
+        | inr h ↦
+            let same = more_at (digits t) d u (past_separator (past_digits t)) (rw (z, h) at e) in
+            record { some = rw (sym same.0) at (some_digits (digits t) z); field = same.0; no_blanks = h; rest = same.1 }
+      ]
     ]
 
 past_digits_shorter : (t : List ℕ) → length (digits t) + length (past_digits t) ≡ length t

@@ -52,15 +52,15 @@ delimiter_good code =
     elim (cases_Bool (code == 1)) [
       | inl a ↦ rw a (inl refl)
       | inr a ↦ elim (cases_Bool (code == 2)) [
-          | inl b ↦ rw (a, b) (inr (inl refl))
-          | inr b ↦ elim (cases_Bool (code == 3)) [
-              | inl d ↦ rw (a, b, d) (inr (inr (inl refl)))
-              | inr d ↦ elim (cases_Bool (code == 4)) [
-                  | inl e ↦ rw (a, b, d, e) (inr (inr (inr (inl refl))))
-                  | inr e ↦ rw (a, b, d, e) (inr (inr (inr (inr refl))))
-                ]
-            ]
+        | inl b ↦ rw (a, b) (inr (inl refl))
+        | inr b ↦ elim (cases_Bool (code == 3)) [
+          | inl d ↦ rw (a, b, d) (inr (inr (inl refl)))
+          | inr d ↦ elim (cases_Bool (code == 4)) [
+            | inl e ↦ rw (a, b, d, e) (inr (inr (inr (inl refl))))
+            | inr e ↦ rw (a, b, d, e) (inr (inr (inr (inr refl))))
+          ]
         ]
+      ]
     ]
 
 -- what the rules say of the lists

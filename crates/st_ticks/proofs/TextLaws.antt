@@ -123,10 +123,11 @@ Separated t u = (separator : List ℕ) × IsSeparator separator × (t ≡ separa
 past_parts : (t u : List ℕ) → Past t u → Separated t u
 past_parts t u (by_mark e) =
     let cut = skipped t in
-    let m = mark_parts (skip_blanks t) u e in
-    ( cut.0 ++ (m.0 ∷ m.1)
-    , inr (cut.0, m.1, m.0, m.2, record { blanks_before = cut.1; blanks_after = m.3; whole = refl })
-    , cut.2 ∙ ap (λ (v : List ℕ). cut.0 ++ v) m.4 ∙ sym (append_assoc cut.0 (m.0 ∷ m.1) u) )
+    let m = mark_parts (skip_blanks t) u e in (
+      cut.0 ++ (m.0 ∷ m.1),
+      inr (cut.0, m.1, m.0, m.2, record { blanks_before = cut.1; blanks_after = m.3; whole = refl }),
+      cut.2 ∙ ap (λ (v : List ℕ). cut.0 ++ v) m.4 ∙ sym (append_assoc cut.0 (m.0 ∷ m.1) u),
+    )
 past_parts t u (by_gap n e) = let g = gap_parts t u e in (g.0, inl g.1, g.2)
 
 pub separator_parts : (t u : List ℕ) → past_separator t ≡ Some u → Separated t u
@@ -226,9 +227,10 @@ separator_passes separator u (inr (before, after, mark, m, h)) s =
 
 -- the last field, and a field before others
 cut_run : (t d : List ℕ) → 0 < length d → d ≡ digits t → IsRun d × (t ≡ d ++ past_digits t)
-cut_run t d s e =
-    ( record { digits = ap are_digits e ∙ digits_are t; some = s }
-    , sym (joined t) ∙ ap (λ (x : List ℕ). x ++ past_digits t) (sym e) )
+cut_run t d s e = (
+  record { digits = ap are_digits e ∙ digits_are t; some = s },
+  sym (joined t) ∙ ap (λ (x : List ℕ). x ++ past_digits t) (sym e),
+)
 
 last_at : (d back : List ℕ) → IsRun d → are_blanks back ≡ true → IsLast (d ++ back) d
 last_at d back h b = record {
@@ -318,9 +320,10 @@ slash_at after u a s = ap (λ (v : List ℕ). Some v) (skip-at after u a (starts
 
 pub slash_behind : (before after u : List ℕ) → are_blanks before ≡ true → are_blanks after ≡ true → Starts u
     → Stops (before ++ (47 ∷ (after ++ u))) × (past_slash (skip_blanks (before ++ (47 ∷ (after ++ u)))) ≡ Some u)
-slash_behind before after u b a s =
-    ( blanks_stop before (47 ∷ (after ++ u)) b refl
-    , ap past_slash (skip-at before (47 ∷ (after ++ u)) b refl) ∙ slash_at after u a s )
+slash_behind before after u b a s = (
+  blanks_stop before (47 ∷ (after ++ u)) b refl,
+  ap past_slash (skip-at before (47 ∷ (after ++ u)) b refl) ∙ slash_at after u a s,
+)
 
 -- a text of fields begins with no partition
 no_partition_at : (d t : List ℕ) → IsRun d → Stops t → past_slash (skip_blanks t) ≡ None → partition_in (d ++ t) ≡ None

@@ -10,7 +10,12 @@ use Rattle.st_ticks.specs.declared.variable.ClockWhy.TheVariants.{Range, Product
 
 abbrev pub numbers_of : Numbers → variables.Numbers
 numbers_of n = record {
-  n_fields = n.n_fields.now; moduli = n.moduli.now; offsets = n.offsets.now; delim = n.delim.now; starts = n.starts.now; ends = n.ends.now;
+  n_fields = n.n_fields.now;
+  moduli = n.moduli.now;
+  offsets = n.offsets.now;
+  delim = n.delim.now;
+  starts = n.starts.now;
+  ends = n.ends.now;
 }
 
 abbrev pub IsEarlyOf : ClockVar → ClockWhy → Type 0

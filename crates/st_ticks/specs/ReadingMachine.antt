@@ -53,9 +53,9 @@ ticked face n (Some place) = Ok (earlier face place + (n - (partition_at face.pa
 unfoldable pub counted_of : Face → Option ℕ → List ℕ → Result ℕ ClockTextFault
 counted_of face partition vs =
     if from_offsets face.fields vs then
-        (if are_small vs && nat_le (count_of face.fields vs) 1_000_000_000_000_000_000
-        then ticked face (count_of face.fields vs) (meant_place face.partitions partition (count_of face.fields vs))
-        else Err TooLarge)
+    (if are_small vs && nat_le (count_of face.fields vs) 1_000_000_000_000_000_000
+    then ticked face (count_of face.fields vs) (meant_place face.partitions partition (count_of face.fields vs))
+    else Err TooLarge)
     else Err FieldBelowOffset
 
 unfoldable pub judged : Face → Option Parts → Result ℕ ClockTextFault

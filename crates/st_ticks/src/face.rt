@@ -83,13 +83,21 @@ impl Face {
         ends: &[Dec],
     ) -> Result<Face, FaceFault>
         ensures makes { MakesFace (record {
-            n_fields = n_fields.now; moduli = moduli.now; offsets = offsets.now;
-            delim = delim.now; starts = starts.now; ends = ends.now;
+          n_fields = n_fields.now;
+          moduli = moduli.now;
+          offsets = offsets.now;
+          delim = delim.now;
+          starts = starts.now;
+          ends = ends.now;
         }) result }
         // No other answer meets it, unless memory was refused.
         ensures only { (answer : Result Seen Fault) → MakesFace (record {
-            n_fields = n_fields.now; moduli = moduli.now; offsets = offsets.now;
-            delim = delim.now; starts = starts.now; ends = ends.now;
+          n_fields = n_fields.now;
+          moduli = moduli.now;
+          offsets = offsets.now;
+          delim = delim.now;
+          starts = starts.now;
+          ends = ends.now;
         }) answer → (result ≡ answer) ⊎ ((result ≡ Err NoMemory) ⊎ (answer ≡ Err NoMemory)) }
     {
         let numbers = Numbers {
@@ -265,7 +273,13 @@ impl Face {
         let mut text = Vec::with_capacity(alloc, ROOM)?;
         put_padded(&mut text, place as u128 + 1, 1)?;
         text.push(b'/')?;
-        put_fields(&mut text, &self.fields, self.delimiter, self.ticks_per_count, count)?;
+        put_fields(
+            &mut text,
+            &self.fields,
+            self.delimiter,
+            self.ticks_per_count,
+            count,
+        )?;
         Ok(Line::from_vec(text))
     }
 }

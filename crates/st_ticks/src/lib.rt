@@ -20,3 +20,6 @@ pub use face::Face;
 pub use fault::{ClockTextFault, FaceFault};
 pub use field::{Field, Partition};
 pub use variable::{ClockFault, ClockVar, ClockWhy, Var};
+
+#[cfg(test)]
+mod tests;

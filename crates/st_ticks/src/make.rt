@@ -48,7 +48,11 @@ pub fn fields_of(alloc: Global, moduli: &[Dec], offsets: &[Dec]) -> Result<Vec<F
 /// # Errors
 ///
 /// That an end is out of its range, and want of memory.
-pub fn partitions_of(alloc: Global, starts: &[Dec], ends: &[Dec]) -> Result<Vec<Partition>, FaceFault>
+pub fn partitions_of(
+    alloc: Global,
+    starts: &[Dec],
+    ends: &[Dec],
+) -> Result<Vec<Partition>, FaceFault>
     requires same { length ends.now ≡ length starts.now }
     requires starts { All (IsFrom 0 (10 ^ 18)) starts.now }
     ensures ok { IfOk result (λ v. HaveEnds starts.now ends.now v.items) }

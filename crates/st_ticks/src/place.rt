@@ -50,7 +50,9 @@ fn first_place(partitions: &[Partition], count: u64) -> Option<usize>
     ensures inside { IfSome result (λ place. place < length partitions.now) }
     ensures has { IfSome result (λ place. IsTrue (machine.has_count count (machine.partition_at partitions.now place))) }
 {
-    partitions.iter().position(|partition| has_count(partition, count))
+    partitions
+        .iter()
+        .position(|partition| has_count(partition, count))
 }
 
 /// How many partitions begin at a tick or before it. The search is by halves.
@@ -60,7 +62,11 @@ pub fn begun(begins: &[u64], ticks: u64) -> usize
     ensures before { (i : ℕ) → i < result → slice_index begins.now i ≤ ticks }
     ensures after { (i : ℕ) → result ≤ i → i < length begins.now → ticks < slice_index begins.now i }
 {
-    begins.partition_point(|begin: &u64| -> bool ensures { result ≡ nat_le begin.now ticks } { *begin <= ticks })
+    begins.partition_point(
+        |begin: &u64| -> bool
+            ensures { result ≡ nat_le begin.now ticks }
+        { *begin <= ticks },
+    )
 }
 
 /// The count of a tick in the partition at a place.

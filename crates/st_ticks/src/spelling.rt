@@ -54,7 +54,13 @@ pub fn put_fields(
         [first, more @ ..] => {
             let value = first.offset + count / ticks_per_count;
             put_padded(out, u128::from(value), width(first))?;
-            put_more_fields(out, more, delimiter, ticks_per_count, count % ticks_per_count)
+            put_more_fields(
+                out,
+                more,
+                delimiter,
+                ticks_per_count,
+                count % ticks_per_count,
+            )
         }
         [] => Ok(()),
     }

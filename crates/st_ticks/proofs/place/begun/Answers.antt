@@ -13,11 +13,11 @@ above a b h = grind (arith, nat_tests)
 pub returns-clause-before : goal.returns-clause-before
 returns-clause-before c =
     let point = IsPartitionPoint-from_clause (λ (b : ℕ). nat_le b c.args.ticks) _ _ c.partition_point.ensures.partitioned
-        (IsPartitionedBy-leb (λ (b : ℕ). b) c.args.begins.now c.args.ticks c.requires.rising) (λ a r q k. search rules) in
+    (IsPartitionedBy-leb (λ (b : ℕ). b) c.args.begins.now c.args.ticks c.requires.rising) (λ a r q k. search rules) in
     λ i l. at_most (get_or c.args.begins.now i 0) c.args.ticks (point.0 i 0 (omega arith) l)
 
 pub returns-clause-after : goal.returns-clause-after
 returns-clause-after c =
     let point = IsPartitionPoint-from_clause (λ (b : ℕ). nat_le b c.args.ticks) _ _ c.partition_point.ensures.partitioned
-        (IsPartitionedBy-leb (λ (b : ℕ). b) c.args.begins.now c.args.ticks c.requires.rising) (λ a r q k. search rules) in
+    (IsPartitionedBy-leb (λ (b : ℕ). b) c.args.begins.now c.args.ticks c.requires.rising) (λ a r q k. search rules) in
     λ i l m. above (get_or c.args.begins.now i 0) c.args.ticks (point.1 i 0 l m)

@@ -37,7 +37,7 @@ written out wanted pushed put d i n s w v fs l e f p q r t =
     let here : padded w v ≡ field_text g gs n = ap (λ (k : ℕ). padded k v) r ∙ ap (λ (k : ℕ). padded (width g) k) (t ∙ ap (λ (k : ℕ). g.offset + n / k) e) in
     let rest : more_text d gs (n % s) ≡ more_text d gs (n % span gs) = ap (λ (k : ℕ). more_text d gs (n % k)) e in
     let front : put ≡ out ++ (d ∷ field_text g gs n) =
-        q ∙ ap (λ (x : List ℕ). x ++ padded w v) p ∙ ap (λ (x : List ℕ). (out ++ d ∷ []) ++ x) here ∙ append_assoc out (d ∷ []) (field_text g gs n) in
+    q ∙ ap (λ (x : List ℕ). x ++ padded w v) p ∙ ap (λ (x : List ℕ). (out ++ d ∷ []) ++ x) here ∙ append_assoc out (d ∷ []) (field_text g gs n) in
     ap (λ (x : List ℕ). x ++ more_text d gs (n % s)) front
     ∙ ap (λ (x : List ℕ). (out ++ (d ∷ field_text g gs n)) ++ x) rest
     ∙ append_assoc out (d ∷ field_text g gs n) (more_text d gs (n % span gs))
@@ -54,9 +54,9 @@ loop-field-preserved c =
     let put : c.put_padded.new.out.items ≡ c.push.new.self.items ++ padded c.width.result c.from.result = c.in_ok-put_padded.ensures.ok in
     record {
       written =
-        written c.loop-field.out.items (c.args.out.now.items ++ more_text c.args.delimiter fs c.args.count) c.push.new.self.items c.put_padded.new.out.items
-        c.args.delimiter i c.loop-field.rest s c.width.result c.from.result fs (omega arith) next c.loop-field.invariant.written pushed put
-        c.width.ensures.value c.from.ensures;
+          written c.loop-field.out.items (c.args.out.now.items ++ more_text c.args.delimiter fs c.args.count) c.push.new.self.items c.put_padded.new.out.items
+          c.args.delimiter i c.loop-field.rest s c.width.result c.from.result fs (omega arith) next c.loop-field.invariant.written pushed put
+          c.width.ensures.value c.from.ensures;
       spans_are = next;
       small = omega (arith, mod-le c.loop-field.rest s, c.loop-field.invariant.small);
     }
@@ -65,5 +65,5 @@ pub returns : goal.returns
 returns c =
     let fs = c.args.fields.now in
     let none : more_text c.args.delimiter (drop c.loop-field.field-index fs) c.loop-field.rest ≡ [] =
-        ap (λ (xs : List Field). more_text c.args.delimiter xs c.loop-field.rest) (drop_all c.loop-field.field-index fs (omega arith)) ∙ more_text-none c.args.delimiter c.loop-field.rest in
+    ap (λ (xs : List Field). more_text c.args.delimiter xs c.loop-field.rest) (drop_all c.loop-field.field-index fs (omega arith)) ∙ more_text-none c.args.delimiter c.loop-field.rest in
     sym (append-nil c.loop-field.out.items) ∙ ap (λ (xs : List ℕ). c.loop-field.out.items ++ xs) (sym none) ∙ c.loop-field.invariant.written

@@ -76,8 +76,9 @@ loop-digits-preserved c =
     let done = c.loop-digits.invariant.0 in
     let some = some_cut d (digits t) c.split_digits.ensures.digits (sym c.if-is_empty.false ∙ c.is_empty.ensures) in
     let rest : Some u ≡ past_separator p = c.in_ok-rest.ensures in
-    let next = is_more t d p u c.split_digits.ensures.digits c.split_digits.ensures.rest some (sym c.are_blanks.ensures ∙ c.if-are_blanks.false) rest in
-    ( done ++ (d ∷ [])
-    , c.push.ensures.holds done d c.loop-digits.invariant.1 c.capped_number.ensures.value
-    , ahead_more c.args.text.now t d u done c.loop-digits.invariant.2 next
-    , omega (arith, more_shorter t d u next, c.push.ensures.count, c.loop-digits.invariant.3) )
+    let next = is_more t d p u c.split_digits.ensures.digits c.split_digits.ensures.rest some (sym c.are_blanks.ensures ∙ c.if-are_blanks.false) rest in (
+      done ++ (d ∷ []),
+      c.push.ensures.holds done d c.loop-digits.invariant.1 c.capped_number.ensures.value,
+      ahead_more c.args.text.now t d u done c.loop-digits.invariant.2 next,
+      omega (arith, more_shorter t d u next, c.push.ensures.count, c.loop-digits.invariant.3),
+    )

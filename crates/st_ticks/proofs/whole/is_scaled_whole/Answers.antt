@@ -30,9 +30,10 @@ returns-then-places-gt-MOST_PLACES c =
     let t : to_z w32 (of_z w32 c.args.tens) ≡ c.args.tens = to_z-of_z c.ranges.tens in
     let size : c.unsigned_abs-size.result ≡ unsigned_abs c.args.digits = c.unsigned_abs-size.ensures.value ∙ ap (λ (z : ℤ). unsigned_abs z) d in
     let places : c.unsigned_abs-places.result ≡ unsigned_abs c.args.tens = c.unsigned_abs-places.ensures.value ∙ ap (λ (z : ℤ). unsigned_abs z) t in
-    let below : le_z (pos 0) c.args.tens ≡ false = ap (λ (z : ℤ). le_z (pos 0) z) (sym t) ∙ c.if-tens-ge0.false in
-    ( λ h. absurd (let e : false ≡ true = h in cc)
-    , λ w. absurd (far_not c.args.digits c.args.tens (some c.unsigned_abs-size.result (unsigned_abs c.args.digits) c.if-size-eq0.false size) (omega (arith, size)) below (omega (arith, places)) w) )
+    let below : le_z (pos 0) c.args.tens ≡ false = ap (λ (z : ℤ). le_z (pos 0) z) (sym t) ∙ c.if-tens-ge0.false in (
+      λ h. absurd (let e : false ≡ true = h in cc),
+      λ w. absurd (far_not c.args.digits c.args.tens (some c.unsigned_abs-size.result (unsigned_abs c.args.digits) c.if-size-eq0.false size) (omega (arith, size)) below (omega (arith, places)) w),
+    )
 
 pub pow-requires : goal.pow-requires
 pow-requires c = power_fits c.unsigned_abs-places.result (omega arith)
@@ -53,9 +54,10 @@ not_zero : (n : ℕ) → nat_eq n 0 ≡ false → n ≡ 0 → ⊥
 not_zero n h e = absurd (let t = zero_is n e in cc)
 
 decided : (P : Type 0) (n : ℕ) → (n ≡ 0 → P) → ((n ≡ 0 → ⊥) → P → ⊥) → (IsTrue (nat_eq n 0) → P) × (P → IsTrue (nat_eq n 0))
-decided P n passed none =
-    ( λ h. passed (is_zero n h)
-    , λ p. elim (cases_Bool (nat_eq n 0)) [ inl t ↦ t | inr f ↦ absurd (none (not_zero n f) p) ] )
+decided P n passed none = (
+  λ h. passed (is_zero n h),
+  λ p. elim (cases_Bool (nat_eq n 0)) [ inl t ↦ t | inr f ↦ absurd (none (not_zero n f) p) ],
+)
 
 pub returns : goal.returns
 returns c =

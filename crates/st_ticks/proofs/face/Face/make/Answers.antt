@@ -64,10 +64,10 @@ invariant_of-result c =
     let delimiter = c.delimiter_of-delimiter.result in
     let face : Face = seen fields delimiter partitions in
     let total : c.in-Some.total ≡ sum_by ticks_in partitions =
-        subst (λ (xs : List Partition). c.in-Some.total ≡ sum_by ticks_in xs) c.deref.ensures.value c.in-Some.ensures.some in
+    subst (λ (xs : List Partition). c.in-Some.total ≡ sum_by ticks_in xs) c.deref.ensures.value c.in-Some.ensures.some in
     let begins : AreBegins face c.in_ok-begins.begins.items =
-        subst (λ (xs : List Partition). AreBegins (seen fields delimiter xs) c.in_ok-begins.begins.items) c.deref-2.ensures.value
-        (record { as_many = c.in_ok-begins.ensures.length; sums = c.in_ok-begins.ensures.sums }) in
+    subst (λ (xs : List Partition). AreBegins (seen fields delimiter xs) c.in_ok-begins.begins.items) c.deref-2.ensures.value
+    (record { as_many = c.in_ok-begins.ensures.length; sums = c.in_ok-begins.ensures.sums }) in
     let is_delimiter : IsDelimiter delimiter = subst (λ (b : ℕ). IsDelimiter b) (sym c.delimiter_of-delimiter.ensures) (delimiter_good c.number.result) in
     record {
       face_is = is_face n face c.requires c.in_ok-fields.ensures.moduli c.in_ok-fields.ensures.offsets c.in_ok-partitions.ensures.ok is_delimiter (omega (arith, total, c.in-Some.ensures.small));
@@ -84,7 +84,7 @@ returns c =
     let delimiter = c.delimiter_of-delimiter.result in
     let face : Face = seen fields delimiter partitions in
     let total : c.in-Some.total ≡ sum_by ticks_in partitions =
-        subst (λ (xs : List Partition). c.in-Some.total ≡ sum_by ticks_in xs) c.deref.ensures.value c.in-Some.ensures.some in
+    subst (λ (xs : List Partition). c.in-Some.total ≡ sum_by ticks_in xs) c.deref.ensures.value c.in-Some.ensures.some in
     let s = are_sized n c.requires in
     makes n face partitions c.requires c.in_ok-partitions.ensures.ok (omega (arith, total, c.in-Some.ensures.small))
     (record {

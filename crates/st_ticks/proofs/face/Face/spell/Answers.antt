@@ -15,8 +15,8 @@ returns c =
     let slash : c.push.new.self.items ≡ c.put_padded.new.out.items ++ 47 ∷ [] = c.in_ok-push.ensures.items in
     let all : c.put_fields.new.out.items ≡ c.push.new.self.items ++ fields_text c.self.inside.delimiter c.deref.result.now c.args.count = c.in_ok-put_fields.ensures in
     let same : fields_text c.self.inside.delimiter c.deref.result.now c.args.count ≡ fields_text face.delimiter face.fields c.args.count =
-        ap (λ (d : ℕ). fields_text d c.deref.result.now c.args.count) delimiter ∙ ap (λ (fs : List Field). fields_text face.delimiter fs c.args.count) fields in
+    ap (λ (d : ℕ). fields_text d c.deref.result.now c.args.count) delimiter ∙ ap (λ (fs : List Field). fields_text face.delimiter fs c.args.count) fields in
     c.from_vec.ensures
     ∙ text_is face c.args.place c.args.count c.in_ok-text.text.items c.put_padded.new.out.items c.push.new.self.items c.put_fields.new.out.items
-        (c.args.place + 1) (omega arith) c.in_ok-text.ensures.items number slash
-        (all ∙ ap (λ (x : List ℕ). c.push.new.self.items ++ x) same)
+    (c.args.place + 1) (omega arith) c.in_ok-text.ensures.items number slash
+    (all ∙ ap (λ (x : List ℕ). c.push.new.self.items ++ x) same)

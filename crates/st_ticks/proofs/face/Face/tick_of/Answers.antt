@@ -28,7 +28,7 @@ returns-then-count-gt-MOST_COUNT c =
     let t = tested c.deref.result.now c.args.self.now.fields c.args.values.now true e c.if-not-are_from_offsets.ensures in
     let f : c.deref-2.result.now ≡ c.args.self.now.fields = c.deref-2.ensures.value ∙ ap (λ (f : Face). f.fields) c.self.view_is in
     let n : c.count_of-count.result ≡ count_of c.args.self.now.fields c.args.values.now =
-        c.count_of-count.ensures ∙ ap (λ (xs : List Field). count_of xs c.args.values.now) f in
+    c.count_of-count.ensures ∙ ap (λ (xs : List Field). count_of xs c.args.values.now) f in
     sym (counted_over c.args.self.now c.args.partition c.args.values.now t (sym c.if-not-are_small.ensures) (omega (arith, n, c.if-count-gt-MOST_COUNT.true)))
 
 pub returns : goal.returns
@@ -37,7 +37,7 @@ returns c =
     let t = tested c.deref.result.now c.args.self.now.fields c.args.values.now true e c.if-not-are_from_offsets.ensures in
     let f : c.deref-2.result.now ≡ c.args.self.now.fields = c.deref-2.ensures.value ∙ ap (λ (f : Face). f.fields) c.self.view_is in
     let n : c.count_of-count.result ≡ count_of c.args.self.now.fields c.args.values.now =
-        c.count_of-count.ensures ∙ ap (λ (xs : List Field). count_of xs c.args.values.now) f in
+    c.count_of-count.ensures ∙ ap (λ (xs : List Field). count_of xs c.args.values.now) f in
     let face = c.args.self.now in
     c.tick_at.ensures
     ∙ ap (λ (k : ℕ). ticked face k (meant_place face.partitions c.args.partition k)) n

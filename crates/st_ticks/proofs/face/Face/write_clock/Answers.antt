@@ -9,7 +9,7 @@ spelling : {E : Type 0} (face : Face) (k place n : ℕ) (r : Result (List ℕ) E
     → IfOk r (λ line. line ≡ spelled face place n) → IfOk r (IsCanonical face k)
 spelling face k place n (Ok line) h e f s =
     let same : spelled face place n ≡ canonical face k =
-        ap (spelled face place) f ∙ ap (λ (i : ℕ). spelled face i (count_at face i (partition_of face k) k)) e in
+    ap (spelled face place) f ∙ ap (λ (i : ℕ). spelled face i (count_at face i (partition_of face k) k)) e in
     (canonical_is_one face k line h).1 (s ∙ same)
 spelling face k place n (Err x) h e f s = s
 
