@@ -1,0 +1,13 @@
+//! The correlation of a spacecraft clock with time: which time a tick has, and which tick a time.
+//!
+//! A clock of type 1 has records, each a tick, a time in the clock's own scale, and a rate from there on. Times are exact:
+//! a tick's time is a count of units and a part of a unit, and a time's tick is the nearest one. No call rounds on the way.
+#![tactic(auto)]
+
+mod coefficient;
+mod point;
+mod stand_in;
+mod ticks;
+
+pub use point::{ClockRange, Point};
+pub use ticks::{Ticks, TicksUndecided};
