@@ -1,0 +1,4 @@
+pub mod Lasts
+pub mod Falls
+pub mod Rising
+pub mod Half

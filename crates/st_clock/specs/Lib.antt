@@ -4,4 +4,3 @@ pub mod Time
 pub mod Small
 pub mod Covered
 pub mod Laws
-pub mod StandIn

@@ -4,7 +4,7 @@
 use Rattle.std.specs.Prelude.{◌≡◌, ℕ, ◌+◌, ◌*◌, ◌^◌, ◌≤◌, ℤ, pos, ◌<ℤ◌, Option, None, Some}
 use Rattle.std.specs.List.{slice_get}
 use Rattle.st_fraction.specs.Fraction.{Fraction, ◌<ᶠ◌, over, whole, units, ◌+ᶠ◌, ◌-ᶠ◌, ◌*ᶠ◌, least}
-use Rattle.st_clock.specs.StandIn.{IsFloor}
+use Rattle.st_fraction.specs.Floor.{IsFloor}
 use Rattle.st_clock.specs.declared.coefficient.Coefficient.{Coefficient}
 use Rattle.st_clock.specs.declared.ticks.Ticks.{Ticks}
 use Rattle.st_clock.specs.declared.ticks.Ticks.TheVariants.{Before, At, After}
