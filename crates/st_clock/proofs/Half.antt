@@ -14,6 +14,7 @@ use Rattle.st_clock.specs.declared.ticks.Ticks.TheVariants.{At}
 use Rattle.st_clock.specs.Clock.{Clock, tpm, total, AreRising, IsClock, IsLast, BeginsBy, StartsBy, IsTimeOf, line_time}
 use Rattle.st_clock.specs.Tick.{line_tick, capped, TickOf}
 use Rattle.st_clock.specs.Covered.{IsCovered, tick_length, half_tick}
+use Rattle.st_clock.proofs.Faces.{tpm_some, inside_total}
 use Rattle.st_clock.proofs.Lasts.{by_place, same_record, next_there, times_in_order}
 use Rattle.st_clock.proofs.Falls.{line_tick-den, capped-den, half_more-den, add_half, half_more}
 use Rattle.st_clock.proofs.Rising.{last_is_one, line_time-den}
@@ -204,7 +205,7 @@ capped_floor (Some s) x k px next f =
 pub tick_within_half : (c : Clock) (k i : ℕ) (r : Coefficient) (v : Fraction) → IsClock c → IsFraction v → IsCovered c k i r
     → (line_time (tpm c) r k -ᶠ half_tick (tpm c) r) ≤ᶠ v → v <ᶠ (line_time (tpm c) r k +ᶠ half_tick (tpm c) r) → TickOf c v (At k)
 tick_within_half c k i r v is pv cov low high =
-    let p = is.tpm_some in
+    let p = tpm_some c is in
     let q = is.rates i r cov.last.here in
     let x = line_tick (tpm c) r v in
     let o = slice_get c.records (i + 1) in
@@ -222,7 +223,7 @@ tick_within_half c k i r v is pv cov low high =
             (not_later c.records (tpm c) r k i j s v is.rising pv.positive (λ t e. (cov.before_next t e).1) next l g);
       };
       rounded = capped_floor o x k (line_tick-den (tpm c) r v q pv.positive) (λ s e. (cov.before_next s e).0) floor;
-    }, cov.inside)
+    }, inside_total c k is cov.inside)
 
 -- the time of a covered tick is that on its record's line
 pub covered_time : (c : Clock) (k i : ℕ) (r : Coefficient) (u : Fraction) → IsCovered c k i r → IsTimeOf c k u → u ≈ᶠ line_time (tpm c) r k
@@ -240,7 +241,7 @@ quarters tpm r m y h = record { at = go (pos (r.rate * 1 * 1)) (pos m) y (pos (1
 pub tick_within_quarter : (c : Clock) (k i : ℕ) (r : Coefficient) (u v : Fraction) → IsClock c → IsFraction u → IsFraction v → IsCovered c k i r
     → IsTimeOf c k u → IsNear v u (tick_length (tpm c) r *ᶠ over (pos 1) 4) → TickOf c v (At k)
 tick_within_quarter c k i r u v is pu pv cov t near =
-    let p = is.tpm_some in
+    let p = tpm_some c is in
     let q = is.rates i r cov.last.here in
     let four : 0 < 4 = lit< tt in
     let l = line_time (tpm c) r k in

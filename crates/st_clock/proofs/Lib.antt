@@ -1,4 +1,5 @@
 pub mod Lasts
+pub mod Faces
 pub mod Falls
 pub mod Rising
 pub mod Half

@@ -5,6 +5,7 @@ use Rattle.st_fraction.proofs.Ring.{lin}
 use Rattle.st_fraction.proofs.Order.{same_sym, same_trans}
 use Rattle.st_clock.specs.declared.coefficient.Coefficient.{Coefficient}
 use Rattle.st_clock.specs.Clock.{Clock, tpm, AreRising, IsClock, IsLast, StartsBy, IsTimeOf, line_time}
+use Rattle.st_clock.proofs.Faces.{tpm_some}
 use Rattle.st_clock.proofs.Lasts.{same_record, last_in_order, next_there}
 
 -- there is one last record with a property
@@ -24,7 +25,7 @@ pub time_is_one : (c : Clock) (k : ℕ) (u v : Fraction) → IsClock c → IsFra
 time_is_one c k u v is pu pv a b =
     let e = last_is_one (StartsBy k) c.records a.place b.place a.by b.by a.last b.last in
     let h : u ≈ᶠ line_time (tpm c) b.by k = subst (λ (r : Coefficient). u ≈ᶠ line_time (tpm c) r k) e a.value in
-    same_trans u (line_time (tpm c) b.by k) v (line_time-den (tpm c) b.by k is.tpm_some) h (same_sym v (line_time (tpm c) b.by k) b.value)
+    same_trans u (line_time (tpm c) b.by k) v (line_time-den (tpm c) b.by k (tpm_some c is)) h (same_sym v (line_time (tpm c) b.by k) b.value)
 
 abbrev Steps : List Coefficient → Type 0
 Steps records =

@@ -4,8 +4,9 @@
 use Rattle.std.specs.Prelude.{◌≡◌, ℕ, ◌+◌, ◌<◌, ◌≤◌, ℤ, pos, ◌-ℤ◌, ◌<ℤ◌, List, length, Some}
 use Rattle.std.specs.List.{slice_get}
 use Rattle.st_fraction.specs.Fraction.{Fraction, ◌≤ᶠ◌, ◌≈ᶠ◌, over, units, ◌+ᶠ◌, ◌*ᶠ◌}
+use Rattle.st_ticks.specs.Face as face
+use Rattle.st_ticks.specs.Face.{Face, IsFace}
 use Rattle.st_clock.specs.declared.coefficient.Coefficient.{Coefficient}
-use Rattle.st_clock.specs.declared.stand_in.Face.{Face}
 use Rattle.st_clock.specs.declared.stand_in.Scale.{Scale}
 
 -- what a clock is seen as: its fields and partitions, the scale of its times, and its records in order
@@ -16,10 +17,10 @@ pub record Clock : Type 0 where
 
 -- how many ticks are one count of the first field, and how many ticks the partitions have together
 abbrev pub tpm : Clock → ℕ
-tpm c = c.face.tpm
+tpm c = face.tpm c.face
 
 abbrev pub total : Clock → ℕ
-total c = c.face.total
+total c = face.total c.face
 
 -- the ticks and the times of the records rise strictly
 abbrev pub AreRising : List Coefficient → Type 0
@@ -27,8 +28,9 @@ AreRising records =
     (i j : ℕ) (r s : Coefficient) → i < j → slice_get records i ≡ Some r → slice_get records j ≡ Some s
     → (r.ticks < s.ticks) × (r.time <ℤ s.time)
 
+-- what is true of each clock
 pub record IsClock (c : Clock) : Type 0 where
-  pub tpm_some : 0 < tpm c
+  pub face : IsFace c.face
   pub some : 0 < length c.records
   pub rates : (i : ℕ) (r : Coefficient) → slice_get c.records i ≡ Some r → 0 < r.rate
   pub rising : AreRising c.records

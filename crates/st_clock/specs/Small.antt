@@ -2,7 +2,6 @@
 use Rattle.std.specs.Prelude.{◌≡◌, ℕ, ◌^◌, ◌≤◌, unsigned_abs, List, Some}
 use Rattle.std.specs.List.{slice_get}
 use Rattle.st_clock.specs.declared.coefficient.Coefficient.{Coefficient}
-use Rattle.st_clock.specs.Clock.{Clock, tpm, total}
 
 -- a tick to 10^18; a time to 10^10 s in magnitude and a rate to 10^5 s, both in units of 10^-18 s
 pub record IsSmall (r : Coefficient) : Type 0 where
@@ -12,8 +11,3 @@ pub record IsSmall (r : Coefficient) : Type 0 where
 
 abbrev pub AreSmall : List Coefficient → Type 0
 AreSmall records = (i : ℕ) (r : Coefficient) → slice_get records i ≡ Some r → IsSmall r
-
-pub record IsSmallClock (c : Clock) : Type 0 where
-  pub tpm_small : tpm c ≤ 10 ^ 12
-  pub total_small : total c ≤ 10 ^ 18
-  pub records : AreSmall c.records
