@@ -4,3 +4,4 @@ pub mod Faces
 pub mod Falls
 pub mod Rising
 pub mod Half
+pub mod Points

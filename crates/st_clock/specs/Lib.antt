@@ -4,3 +4,4 @@ pub mod Time
 pub mod Small
 pub mod Covered
 pub mod Laws
+pub mod Nearest

@@ -5,6 +5,8 @@
 #![tactic(auto)]
 
 mod coefficient;
+mod nearest;
+mod places;
 mod point;
 mod stand_in;
 mod ticks;
