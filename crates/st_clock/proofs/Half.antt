@@ -43,7 +43,7 @@ line_at tpm r k m x y h g =
         rw (u, v, h) refl
 
 -- the line's tick and a half, at the scale m R 2
-tick_at : (tpm : ℕ) (r : Coefficient) (v : Fraction) (m : ℕ) (x w : ℤ) → IsAt m (units r.time) x → IsAt m v w
+pub tick_at : (tpm : ℕ) (r : Coefficient) (v : Fraction) (m : ℕ) (x w : ℤ) → IsAt m (units r.time) x → IsAt m v w
     → IsAt (m * r.rate * 2) (line_tick tpm r v +ᶠ over (pos 1) 2)
       ((pos r.ticks *ℤ pos (m * r.rate) +ℤ (w +ℤ neg_ℤ x) *ℤ pos (tpm * 10 ^ 18)) *ℤ pos 2 +ℤ pos (m * r.rate))
 tick_at tpm r v m x w h g =

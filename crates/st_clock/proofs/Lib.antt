@@ -5,3 +5,4 @@ pub mod Falls
 pub mod Rising
 pub mod Half
 pub mod Points
+pub mod Rounding

@@ -1,11 +1,11 @@
 //! The tick nearest to a time on a record's line, in whole numbers of 128 bits.
 
-ghost use Rattle.std.specs.Prelude.{◌≡◌, ℕ, ◌+◌, ◌*◌, ◌^◌, ◌≤◌, ◌<◌, ◌≤ℤ◌, ◌⊎◌, pos, unsigned_abs, length, slice_get, Some};
+ghost use Rattle.std.specs.Prelude.{◌≡◌, ◌+ℤ◌, ◌+◌, ◌*◌, ◌^◌, ◌≤◌, ◌<◌, ◌≤ℤ◌, ◌⊎◌, pos, unsigned_abs};
+ghost use Rattle.std.specs.Option.{ForSome};
 ghost use Rattle.st_fraction.specs.Fraction.{over, units, ◌+ᶠ◌};
 ghost use Rattle.st_clock.specs.Nearest.{IsFloorOrFar};
-ghost use Rattle.st_clock.specs.Small.{AreSmall, IsSmall};
+ghost use Rattle.st_clock.specs.Small.{IsSmall};
 ghost use Rattle.st_clock.specs.Tick.{line_tick, capped};
-ghost use Rattle.st_clock.specs.declared.coefficient.Coefficient.{Coefficient as Record};
 
 use crate::coefficient::Coefficient;
 
@@ -35,6 +35,14 @@ fn rounded(elapsed: u128, tpm: u64, rate: u128) -> u128
     counts * tpm + (2 * rest * tpm + rate) / (2 * rate)
 }
 
+/// How many units a time is behind an earlier one.
+fn units_since(begin: i128, time: i128) -> u128
+    requires { begin ≤ℤ time }
+    ensures { time ≡ begin +ℤ pos result }
+{
+    time.abs_diff(begin)
+}
+
 /// The ticks from a record's to the one nearest to a time, on the record's line.
 fn ticks_since(tpm: u64, r: Coefficient, time: i128) -> u128
     requires tpm_some { 0 < tpm }
@@ -46,24 +54,23 @@ fn ticks_since(tpm: u64, r: Coefficient, time: i128) -> u128
     ensures floor { IsFloorOrFar (line_tick tpm r (units time) +ᶠ over (pos 1) 2) (r.ticks + result) }
     ensures small { result ≤ 10 ^ 32 }
 {
-    rounded((time - r.time) as u128, tpm, r.rate)
+    rounded(units_since(r.time, time), tpm, r.rate)
 }
 
-/// The tick nearest to a time by the record at a place, and no more than the next record's; or, where that is 10^19 or more,
-/// a number that is, too.
-pub fn nearest(tpm: u64, records: &[Coefficient], place: usize, time: i128) -> u128
+/// The tick nearest to a time by a record that has begun, and no more than the next record's; or, where that is 10^19 or
+/// more, a number that is, too.
+pub fn nearest(tpm: u64, r: Coefficient, next: Option<Coefficient>, time: i128) -> u128
     requires tpm_some { 0 < tpm }
     requires tpm_small { tpm ≤ 10 ^ 12 }
-    requires there { place < length records.now }
-    requires rates { (i : ℕ) (r : Record) → slice_get records.now i ≡ Some r → 0 < r.rate }
-    requires records_small { AreSmall records.now }
-    requires begun { (r : Record) → slice_get records.now place ≡ Some r → r.time ≤ℤ time }
+    requires rate { 0 < r.rate }
+    requires record_small { IsSmall r }
+    requires next_small { ForSome next IsSmall }
+    requires begun { r.time ≤ℤ time }
     requires time_small { unsigned_abs time ≤ 10 ^ 28 }
-    ensures floor { (r : Record) → slice_get records.now place ≡ Some r → IsFloorOrFar (capped (slice_get records.now (place + 1)) (line_tick tpm r (units time)) +ᶠ over (pos 1) 2) result }
+    ensures { IsFloorOrFar (capped next (line_tick tpm r (units time)) +ᶠ over (pos 1) 2) result }
 {
-    let r = records[place];
     let number = u128::from(r.ticks) + ticks_since(tpm, r, time);
-    match records.get(place + 1) {
+    match next {
         Some(next) => number.min(u128::from(next.ticks)),
         None => number,
     }

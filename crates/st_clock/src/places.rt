@@ -25,3 +25,10 @@ pub fn started(records: &[Coefficient], ticks: u64) -> usize
 {
     records.partition_point(|r: &Coefficient| -> bool ensures { result ≡ nat_le r.now.ticks ticks } { r.ticks <= ticks })
 }
+
+/// The record at a place, where there is one.
+pub fn record_at(records: &[Coefficient], place: usize) -> Option<Coefficient>
+    ensures { result ≡ slice_get records.now place }
+{
+    records.get(place).copied()
+}
