@@ -6,3 +6,4 @@ pub mod Rising
 pub mod Half
 pub mod Points
 pub mod Rounding
+pub mod Forces

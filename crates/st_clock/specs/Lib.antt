@@ -5,3 +5,5 @@ pub mod Small
 pub mod Covered
 pub mod Laws
 pub mod Nearest
+pub mod InForce
+pub mod Kept

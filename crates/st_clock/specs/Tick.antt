@@ -1,13 +1,14 @@
 -- The tick of a time: the nearest one on the line of the record in force, after NAIF's SCLK Required Reading, type 1.
 -- That a line is capped at the next record's tick, and that what lies behind the last partition is After, are choices of
 -- this project: so the tick never falls as the time rises.
-use Rattle.std.specs.Prelude.{◌≡◌, ℕ, ◌+◌, ◌*◌, ◌^◌, ◌≤◌, ℤ, pos, ◌<ℤ◌, Option, None, Some}
+use Rattle.std.specs.Prelude.{◌≡◌, ◌≢◌, ℕ, ◌+◌, ◌*◌, ◌^◌, ◌≤◌, ℤ, pos, ◌<ℤ◌, Option, None, Some, Result, Ok, Err}
 use Rattle.std.specs.List.{slice_get}
 use Rattle.st_fraction.specs.Fraction.{Fraction, ◌<ᶠ◌, over, whole, units, ◌+ᶠ◌, ◌-ᶠ◌, ◌*ᶠ◌, least}
 use Rattle.st_fraction.specs.Floor.{IsFloor}
 use Rattle.st_clock.specs.declared.coefficient.Coefficient.{Coefficient}
 use Rattle.st_clock.specs.declared.ticks.Ticks.{Ticks}
 use Rattle.st_clock.specs.declared.ticks.Ticks.TheVariants.{Before, At, After}
+use Rattle.st_clock.specs.declared.ticks.TicksUndecided.{TicksUndecided}
 use Rattle.st_clock.specs.Clock.{Clock, tpm, total, IsLast, BeginsBy}
 
 -- the tick of the time v on the record's line, with its part: S + (v - T) tpm / R
@@ -41,3 +42,8 @@ IsNoLater (At j) After = Unit {0}
 IsNoLater After Before = ⊥
 IsNoLater After (At k) = ⊥
 IsNoLater After After = Unit {0}
+
+-- what is answered for a time that lies from lo to hi: the tick of both ends, or their two ticks
+abbrev pub GivesTicks : Clock → Fraction → Fraction → Result Ticks TicksUndecided → Type 0
+GivesTicks c lo hi (Ok t) = TickOf c lo t × TickOf c hi t
+GivesTicks c lo hi (Err e) = TickOf c lo e.lo × (TickOf c hi e.hi × (e.lo ≢ e.hi))

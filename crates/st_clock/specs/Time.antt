@@ -1,5 +1,5 @@
 -- The time of a tick as it is answered, and where there is none.
-use Rattle.std.specs.Prelude.{◌≡◌, ℕ, ◌*◌, ◌^◌, ◌<◌, pos, Some}
+use Rattle.std.specs.Prelude.{◌≡◌, ℕ, ◌*◌, ◌^◌, ◌<◌, pos, Result, Ok, Err, Some}
 use Rattle.std.specs.List.{slice_get}
 use Rattle.st_fraction.specs.Fraction.{Fraction, IsFraction, ◌≤ᶠ◌, over, units, ◌+ᶠ◌}
 use Rattle.st_dates.specs.Range.{range_start, range_end}
@@ -7,7 +7,7 @@ use Rattle.st_clock.specs.declared.coefficient.Coefficient.{Coefficient}
 use Rattle.st_clock.specs.declared.point.Point.{Point}
 use Rattle.st_clock.specs.declared.point.ClockRange.{ClockRange}
 use Rattle.st_clock.specs.declared.point.ClockRange.TheVariants.{Before, OutOfRange}
-use Rattle.st_clock.specs.Clock.{Clock, IsTimeOf}
+use Rattle.st_clock.specs.Clock.{Clock, tpm, IsTimeOf}
 
 -- units and a part of a unit, in seconds
 abbrev pub value_of : Point → Fraction
@@ -22,3 +22,8 @@ pub record IsInRange (v : Fraction) : Type 0 where
 abbrev pub HasNoTime : Clock → ℕ → ClockRange → Type 0
 HasNoTime c k Before = (i : ℕ) (r : Coefficient) → slice_get c.records i ≡ Some r → k < r.ticks
 HasNoTime c k OutOfRange = (v : Fraction) × (IsFraction v × (IsTimeOf c k v × (IsInRange v → ⊥)))
+
+-- what is answered for the tick k: its time, with the part of a unit in ticks of one count of the first field
+abbrev pub GivesTime : Clock → ℕ → Result Point ClockRange → Type 0
+GivesTime c k (Ok p) = IsTimeOf c k (value_of p) × (IsInRange (value_of p) × (p.of ≡ tpm c))
+GivesTime c k (Err why) = HasNoTime c k why

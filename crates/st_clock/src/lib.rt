@@ -5,6 +5,7 @@
 #![tactic(auto)]
 
 mod coefficient;
+mod line;
 mod nearest;
 mod places;
 mod point;
