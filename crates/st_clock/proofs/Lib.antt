@@ -7,3 +7,4 @@ pub mod Half
 pub mod Points
 pub mod Rounding
 pub mod Forces
+pub mod Ranges

@@ -1,7 +1,7 @@
 //! The time of a tick on a record's line.
 
 ghost use Rattle.std.specs.Prelude.{◌≡◌, ℕ, ◌+◌, ◌*◌, ◌/◌, ◌%◌, ◌^◌, ◌≤◌, ◌<◌, ◌↔◌, pos, ◌+ℤ◌, IsTrue, IfSome, IfNone, unsigned_abs};
-ghost use Rattle.st_fraction.specs.Fraction.{◌<ᶠ◌, ◌≈ᶠ◌, units};
+ghost use Rattle.st_fraction.specs.Fraction.{◌<ᶠ◌, ◌≈ᶠ◌, over, units, ◌+ᶠ◌};
 ghost use Rattle.st_dates.specs.Range.{range_end};
 ghost use Rattle.st_clock.specs.Clock.{line_time as time_on};
 ghost use Rattle.st_clock.specs.Small.{IsSmall};
@@ -52,12 +52,16 @@ fn point(time: i128, elapsed: u128, part: u128, of: u64) -> Point
     }
 }
 
-/// Whether a time lies in the range that is answered.
-pub fn is_in_range(p: Point) -> bool
-    ensures { IsTrue result ↔ IsInRange (value_of p) }
+/// Whether a count of units and a part of a unit lie in the range of times.
+pub fn is_in_range(count: i128, part: u64, of: u64) -> bool
+    requires { part < of }
+    ensures { IsTrue result ↔ IsInRange (units count +ᶠ over (pos part) (10 ^ 18 * of)) }
 {
-    if p.units < FIRST {
+    if count < FIRST {
         return false;
     }
-    p.units < LAST || (p.units == LAST && p.part == 0)
+    if count == LAST {
+        return part == 0;
+    }
+    count < LAST
 }
