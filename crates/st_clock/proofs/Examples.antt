@@ -7,8 +7,8 @@ use Rattle.st_fraction.proofs.Order.{not_both_f}
 use Rattle.st_ticks.specs.Face.{Face}
 use Rattle.st_ticks.specs.declared.field.Field.{Field}
 use Rattle.st_ticks.specs.declared.field.Partition.{Partition}
-use Rattle.st_clock.specs.declared.stand_in.Scale.{Scale}
-use Rattle.st_clock.specs.declared.stand_in.Scale.TheVariants.{Tt, Tdb}
+use Rattle.st_scales.specs.declared.scale.Scale.{Scale}
+use Rattle.st_scales.specs.declared.scale.Scale.TheVariants.{Tt, Tdb}
 use Rattle.st_clock.specs.declared.coefficient.Coefficient.{Coefficient}
 use Rattle.st_clock.specs.declared.ticks.Ticks.TheVariants.{Before, At, After}
 use Rattle.st_clock.specs.Clock.{Clock, IsLast, StartsBy, BeginsBy, IsTimeOf}

@@ -7,7 +7,7 @@ use Rattle.st_fraction.specs.Fraction.{Fraction, ◌≤ᶠ◌, ◌≈ᶠ◌, ove
 use Rattle.st_ticks.specs.Face as face
 use Rattle.st_ticks.specs.Face.{Face, IsFace}
 use Rattle.st_clock.specs.declared.coefficient.Coefficient.{Coefficient}
-use Rattle.st_clock.specs.declared.stand_in.Scale.{Scale}
+use Rattle.st_scales.specs.declared.scale.Scale.{Scale}
 
 -- what a clock is seen as: its fields and partitions, the scale of its times, and its records in order
 pub record Clock : Type 0 where

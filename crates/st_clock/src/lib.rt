@@ -4,13 +4,14 @@
 //! a tick's time is a count of units and a part of a unit, and a time's tick is the nearest one. No call rounds on the way.
 #![tactic(auto)]
 
+mod clock;
 mod coefficient;
 mod line;
 mod nearest;
 mod places;
 mod point;
-mod stand_in;
 mod ticks;
 
+pub use clock::Clock;
 pub use point::{ClockRange, Point};
 pub use ticks::{Ticks, TicksUndecided};
