@@ -8,3 +8,4 @@ pub mod Points
 pub mod Rounding
 pub mod Forces
 pub mod Ranges
+pub mod Answered

@@ -25,7 +25,7 @@ parted_at u a d = at_add (10 ^ 18 * d) (units u) (over (pos a) (10 ^ 18 * d)) (u
 scale_some : (d : ℕ) → 0 < d → 0 < 10 ^ 18 * d
 scale_some d p = let unit : 0 < 10 ^ 18 = lit< tt in mul-pos unit p
 
-parted-den : (u : ℤ) (a d : ℕ) → 0 < d → 0 < (parted u a d).den
+pub parted-den : (u : ℤ) (a d : ℕ) → 0 < d → 0 < (parted u a d).den
 parted-den u a d p = let unit : 0 < 10 ^ 18 = lit< tt in mul-pos unit (scale_some d p)
 
 pub from_low : (lo u : ℤ) (a d : ℕ) → 0 < d → lo ≤ℤ u → units lo ≤ᶠ parted u a d

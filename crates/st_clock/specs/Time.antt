@@ -23,7 +23,8 @@ abbrev pub HasNoTime : Clock → ℕ → ClockRange → Type 0
 HasNoTime c k Before = (i : ℕ) (r : Coefficient) → slice_get c.records i ≡ Some r → k < r.ticks
 HasNoTime c k OutOfRange = (v : Fraction) × (IsFraction v × (IsTimeOf c k v × (IsInRange v → ⊥)))
 
--- what is answered for the tick k: its time, with the part of a unit in ticks of one count of the first field
+-- what is answered for the tick k: its time, with less than a unit as so many parts of one as a count of the first field
+-- has ticks
 abbrev pub GivesTime : Clock → ℕ → Result Point ClockRange → Type 0
-GivesTime c k (Ok p) = IsTimeOf c k (value_of p) × (IsInRange (value_of p) × (p.of ≡ tpm c))
+GivesTime c k (Ok p) = IsTimeOf c k (value_of p) × (IsInRange (value_of p) × ((p.part < p.of) × (p.of ≡ tpm c)))
 GivesTime c k (Err why) = HasNoTime c k why

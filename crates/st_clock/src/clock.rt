@@ -59,4 +59,63 @@ impl Clock {
     {
         self.scale
     }
+
+    /// The time of an encoded tick, in the clock's scale.
+    ///
+    /// # Errors
+    ///
+    /// [`ClockRange`].
+    pub fn time_of(&self, ticks: u64) -> Result<Point, ClockRange>
+        ensures gives { GivesTime self.now ticks result }
+        ensures only { (answer : Result Parted Range) → GivesTime self.now ticks answer → result ≡ answer }
+    {
+        let Some(force) = at_tick(self.records.as_slice(), ticks) else {
+            return Err(ClockRange::Before);
+        };
+        let Some(p) = line_time(self.face.ticks_per_count(), force.record, ticks) else {
+            return Err(ClockRange::OutOfRange);
+        };
+        if is_in_range(p.units, p.part, p.of) {
+            Ok(p)
+        } else {
+            Err(ClockRange::OutOfRange)
+        }
+    }
+
+    /// The encoded tick nearest to a time of the clock's scale, in units of 10^-18 s past J2000, at most 10^10 s in magnitude.
+    /// A half counts up, and no line goes beyond the next record's tick.
+    pub fn ticks_of(&self, time: i128) -> Ticks
+        requires { unsigned_abs time ≤ 10 ^ 28 }
+        ensures gives { TickOf self.now (units time) result }
+        ensures only { (answer : Answer) → TickOf self.now (units time) answer → result ≡ answer }
+    {
+        let Some(force) = at_time(self.records.as_slice(), time) else {
+            return Ticks::Before;
+        };
+        let number = nearest(self.face.ticks_per_count(), force.record, force.next, time);
+        if number > u128::from(self.face.total()) {
+            Ticks::After
+        } else {
+            Ticks::At(number as u64)
+        }
+    }
+
+    /// The encoded tick of a time that is known to lie in an enclosure, whose ends are at most 10^10 s in magnitude.
+    ///
+    /// # Errors
+    ///
+    /// [`TicksUndecided`] where the ticks of the two ends differ.
+    pub fn ticks_in(&self, time: Enc) -> Result<Ticks, TicksUndecided>
+        requires { EndsAtMost time.lo time.hi (10 ^ 28) }
+        ensures gives { GivesTicks self.now (units time.lo) (units time.hi) result }
+        ensures only { (answer : Result Answer Two) → GivesTicks self.now (units time.lo) (units time.hi) answer → result ≡ answer }
+    {
+        let lo = self.ticks_of(time.lo);
+        let hi = self.ticks_of(time.hi);
+        if lo.is_same(hi) {
+            Ok(lo)
+        } else {
+            Err(TicksUndecided { lo, hi })
+        }
+    }
 }

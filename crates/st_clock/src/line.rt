@@ -23,6 +23,8 @@ pub fn line_time(tpm: u64, r: Coefficient, ticks: u64) -> Option<Point>
     requires started { r.ticks ≤ ticks }
     ensures some { IfSome result (λ p. value_of p ≈ᶠ time_on tpm r ticks) }
     ensures of { IfSome result (λ p. p.of ≡ tpm) }
+    ensures part { IfSome result (λ p. p.part < p.of) }
+    ensures small { IfSome result (λ p. unsigned_abs p.units ≤ 10 ^ 36) }
     ensures none { IfNone result (units range_end <ᶠ time_on tpm r ticks) }
 {
     let since = ticks - r.ticks;
@@ -43,6 +45,7 @@ fn point(time: i128, elapsed: u128, part: u128, of: u64) -> Point
     ensures units { result.units ≡ time +ℤ pos (elapsed + part / of) }
     ensures part { result.part ≡ part % of }
     ensures of { result.of ≡ of }
+    ensures small { unsigned_abs result.units ≤ 10 ^ 36 }
 {
     let count = u128::from(of);
     Point {

@@ -1,14 +1,11 @@
 //! The time of a tick.
 
-ghost use Rattle.std.specs.Prelude.{◌<◌};
-
 /// A time of a clock's scale: `units + part / of` units of 10^-18 s past J2000, where `part < of`.
 #[derive(Clone, Copy, Debug, PartialEq, Eq)]
 pub struct Point {
     pub units: i128,
     pub part: u64,
     pub of: u64,
-    ghost below: { part < of },
 }
 
 /// Why a tick has no time that is answered.

@@ -1,5 +1,7 @@
 //! The tick of a time.
 
+ghost use Rattle.std.specs.Prelude.{◌≡◌, ◌↔◌, IsTrue};
+
 /// The tick of a time, with the times that have none.
 #[derive(Clone, Copy, Debug, PartialEq, Eq)]
 pub enum Ticks {
@@ -9,6 +11,19 @@ pub enum Ticks {
     At(u64),
     /// The nearest tick is behind the last partition's end.
     After,
+}
+
+impl Ticks {
+    /// Whether the two are one.
+    pub fn is_same(self, other: Ticks) -> bool
+        ensures { IsTrue result ↔ (self ≡ other) }
+    {
+        match (self, other) {
+            (Ticks::Before, Ticks::Before) | (Ticks::After, Ticks::After) => true,
+            (Ticks::At(a), Ticks::At(b)) => a == b,
+            _ => false,
+        }
+    }
 }
 
 /// The ticks of the two ends of an enclosure, which are not one.
