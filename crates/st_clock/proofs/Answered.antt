@@ -75,16 +75,19 @@ pub answer_before : (c : Clock) (records : List Coefficient) (v : Fraction) → 
     → ((i : ℕ) (r : Coefficient) → slice_get records i ≡ Some r → v <ᶠ units r.time) → TickOf c v Before
 answer_before c records v e h = rw e at h
 
--- an enclosure has one answer
-pub ticks_are_one : (c : Clock) (lo hi : Fraction) (a b : Result Ticks TicksUndecided) → IsClock c → IsFraction lo → IsFraction hi
-    → GivesTicks c lo hi a → GivesTicks c lo hi b → a ≡ b
-ticks_are_one c lo hi (Ok s) (Ok t) is pl ph g h = ap Ok (tick_is_one c lo s t is pl g.0 h.0)
-ticks_are_one c lo hi (Ok s) (Err e) is pl ph g h = absurd (h.1.1 (tick_is_one c lo e.lo s is pl h.0 g.0 ∙ tick_is_one c hi s e.hi is ph g.1 h.1.0))
-ticks_are_one c lo hi (Err e) (Ok t) is pl ph g h = absurd (g.1.1 (tick_is_one c lo e.lo t is pl g.0 h.0 ∙ tick_is_one c hi t e.hi is ph h.1 g.1.0))
-ticks_are_one c lo hi (Err d) (Err e) is pl ph g h =
-    let u = tick_is_one c lo d.lo e.lo is pl g.0 h.0 in
-    let v = tick_is_one c hi d.hi e.hi is ph g.1.0 h.1.0 in
-    λ i. Err (record { lo = u i; hi = v i })
+-- the ticks of the ends of an enclosure
+pub same_ticks : (c : Clock) (lo hi : Fraction) (a b : Ticks) → TickOf c lo a → TickOf c hi b → a ≡ b → GivesTicks c lo hi (Ok a)
+same_ticks c lo hi a b g h e = (g, subst (TickOf c hi) (sym e) h)
+
+pub same_ticks_only : (c : Clock) (lo hi : Fraction) (a b : Ticks) → ((t : Ticks) → TickOf c lo t → a ≡ t) → ((t : Ticks) → TickOf c hi t → b ≡ t) → a ≡ b
+    → (answer : Result Ticks TicksUndecided) → GivesTicks c lo hi answer → Ok a ≡ answer
+same_ticks_only c lo hi a b p q e (Ok t) h = ap Ok (p t h.0)
+same_ticks_only c lo hi a b p q e (Err two) h = absurd (h.1.1 (sym (p two.lo h.0) ∙ e ∙ q two.hi h.1.0))
+
+pub two_ticks_only : (c : Clock) (lo hi : Fraction) (a b : Ticks) → ((t : Ticks) → TickOf c lo t → a ≡ t) → ((t : Ticks) → TickOf c hi t → b ≡ t) → (a ≢ b)
+    → (answer : Result Ticks TicksUndecided) → GivesTicks c lo hi answer → Err (record { lo = a; hi = b }) ≡ answer
+two_ticks_only c lo hi a b p q never (Ok t) h = absurd (never (p t h.0 ∙ sym (q t h.1)))
+two_ticks_only c lo hi a b p q never (Err two) h = λ i. Err (record { lo = p two.lo h.0 i; hi = q two.hi h.1.0 i })
 
 -- times
 pub value_of-den : (p : Point) → p.part < p.of → 0 < (value_of p).den
