@@ -7,3 +7,4 @@ pub mod Laws
 pub mod Nearest
 pub mod InForce
 pub mod Kept
+pub mod Parts

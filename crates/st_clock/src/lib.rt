@@ -10,8 +10,10 @@ mod line;
 mod nearest;
 mod places;
 mod point;
+mod system;
 mod ticks;
 
 pub use clock::Clock;
 pub use point::{ClockRange, Point};
+pub use system::check_system;
 pub use ticks::{Ticks, TicksUndecided};
