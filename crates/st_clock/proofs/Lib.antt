@@ -9,3 +9,4 @@ pub mod Rounding
 pub mod Forces
 pub mod Ranges
 pub mod Answered
+pub mod PartLaws

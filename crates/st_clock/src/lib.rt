@@ -8,6 +8,7 @@ mod clock;
 mod coefficient;
 mod line;
 mod nearest;
+mod number;
 mod places;
 mod point;
 mod system;

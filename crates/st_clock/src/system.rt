@@ -20,6 +20,13 @@ pub fn check_system(data_type: &[Dec], time_system: &[Dec]) -> Result<Scale, Clo
     ensures gives { GivesScale data_type.now time_system.now result }
     ensures only { (answer : Result TheScale TheFault) → GivesScale data_type.now time_system.now answer → result ≡ answer }
 {
+    judged(data_type, time_system)
+}
+
+/// The scale, or the first fault of the two variables.
+fn judged(data_type: &[Dec], time_system: &[Dec]) -> Result<Scale, ClockFault>
+    ensures { GivesScale data_type.now time_system.now result }
+{
     if data_type.len() != 1 {
         return Err(fault(ClockVar::DataType, ClockWhy::NotOne));
     }
