@@ -10,3 +10,6 @@ pub mod Forces
 pub mod Ranges
 pub mod Answered
 pub mod PartLaws
+pub mod Wholes
+pub mod Gathers
+pub mod RecordLaws

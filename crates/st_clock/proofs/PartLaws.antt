@@ -80,7 +80,7 @@ system_found dt (t ∷ ts) d e scale l h k s =
     range i x g = (scale, subst (λ (y : Dec). IsSystem y scale) (one_value (t ∷ ts) i t x (omega arith) refl g) s)
 
 pub system_left_out : (dt ts : List Dec) (d : Dec) → length dt ≡ 1 → IsNumber (get_or dt 0 d) (pos 1) → length ts ≡ 0 → GivesScale dt ts (Ok Tdb)
-system_left_out dt [] d l h k = ((l, (type_is_one dt d l h, ((let m : length [] ≤ 1 = omega arith in m), (none, tt)))), refl)
+system_left_out dt [] d l h k = ((l, (type_is_one dt d l h, ((let m : length {A = Dec} [] ≤ 1 = omega arith in m), (none, tt)))), refl)
   where
     none : KeepsSystem [] Range
     none i x g = absurd (nothing x g)

@@ -101,10 +101,12 @@ fault var why = record { var = var; why = why }
 abbrev pub system_rules : List ClockFault
 system_rules = fault DataType NotOne ∷ fault DataType Range ∷ fault TimeSystem NotOne ∷ fault TimeSystem Range ∷ []
 
+abbrev pub record_rules : List ClockFault
+record_rules =
+    fault Coefficients Count ∷ fault Coefficients NotWhole ∷ fault Coefficients NotUnits ∷ fault Coefficients Range ∷ fault Coefficients NotRising ∷ []
+
 abbrev pub clock_rules : List ClockFault
-clock_rules =
-    fault DataType NotOne ∷ fault DataType Range ∷ fault TimeSystem NotOne ∷ fault TimeSystem Range ∷ fault Coefficients Count
-    ∷ fault Coefficients NotWhole ∷ fault Coefficients NotUnits ∷ fault Coefficients Range ∷ fault Coefficients NotRising ∷ []
+clock_rules = system_rules ++ record_rules
 
 -- what is answered for a data type and a time system: the scale, or the first fault
 abbrev pub GivesScale : List Dec → List Dec → Result Scale ClockFault → Type 0
@@ -126,6 +128,17 @@ pub record IsRecordAt (values : List Dec) (i : ℕ) (r : Coefficient) : Type 0 w
 pub record AreRecords (values : List Dec) (records : List Coefficient) : Type 0 where
   pub as_many : length values ≡ 3 * length records
   pub each : (i : ℕ) (r : Coefficient) → slice_get records i ≡ Some r → IsRecordAt values i r
+
+-- each record's tick and time are before the next one's
+abbrev pub HaveSteps : List Coefficient → Type 0
+HaveSteps records =
+    (i : ℕ) (r s : Coefficient) → slice_get records i ≡ Some r → slice_get records (i + 1) ≡ Some s → (r.ticks < s.ticks) × (r.time <ℤ s.time)
+
+-- what is answered for the coefficients: the records, or the first fault; or that memory was refused
+abbrev pub GivesRecords : List Dec → Result (List Coefficient) FaceFault → Type 0
+GivesRecords values (Ok records) = AreKept (Keeps [] [] values) record_rules × AreRecords values records
+GivesRecords values (Err (Bad broken)) = IsFirstBroken (Keeps [] [] values) record_rules broken
+GivesRecords values (Err OutOfMemory) = Unit {0}
 
 -- what is answered for a face and the three variables: the clock, or the first fault; or that memory was refused
 abbrev pub GivesClock : Face → List Dec → List Dec → List Dec → Result Clock FaceFault → Type 0

@@ -11,6 +11,7 @@ mod nearest;
 mod number;
 mod places;
 mod point;
+mod records;
 mod system;
 mod ticks;
 

@@ -1,6 +1,7 @@
 //! What a record's three numbers may be.
 
 ghost use Rattle.std.specs.Prelude.{◌≡◌, ◌↔◌, ◌≤ℤ◌, ◌<ℤ◌, ℕ, ℤ, pos, Some, IsTrue, IfSome};
+ghost use Rattle.st_decimal.specs.Scaling.{IsTimesTen};
 ghost use Rattle.st_clock.specs.Parts.{HasNumber, HasUnits, IsTick, IsTime, IsRate};
 
 use st_decimal::Dec;
@@ -18,18 +19,31 @@ const MOST_RATE: i128 = 100_000_000_000_000_000_000_000;
 pub fn is_whole(d: Dec) -> bool
     ensures { IsTrue result ↔ HasNumber d }
 {
-    if d.tens >= 0 || d.digits == 0 {
+    is_whole_product(d.digits, d.tens)
+}
+
+/// Whether a number times ten to a power is whole.
+fn is_whole_product(digits: i128, tens: i32) -> bool
+    ensures { IsTrue result ↔ ((n : ℤ) × IsTimesTen digits tens n) }
+{
+    if tens >= 0 {
         return true;
     }
-    if d.tens < -40 {
+    if digits == 0 {
+        return true;
+    }
+    if tens < -40 {
         return false;
     }
-    // Tens of less than 0 leave less than 10^38, the most that counts of units reach.
+    // A power below 0 leaves less than 10^38, to which counts of units reach.
     let parts = Dec {
-        digits: d.digits,
-        tens: d.tens - 18,
+        digits,
+        tens: tens - 18,
     };
-    parts.units18().is_some()
+    match parts.units18() {
+        Some(_) => true,
+        None => false,
+    }
 }
 
 /// Whether a decimal is a count of units.
