@@ -13,3 +13,4 @@ pub mod PartLaws
 pub mod Wholes
 pub mod Gathers
 pub mod RecordLaws
+pub mod ClockLaws

@@ -1,8 +1,9 @@
 -- The first fault of a clock's coefficients.
-use Rattle.std.proofs.Common.{◌≡◌, ◌≢◌, ℕ, zero, suc, ◌+◌, ◌*◌, ◌/◌, ◌%◌, ◌<◌, ◌≤◌, ℤ, pos, ◌+ℤ◌, ◌<ℤ◌, ◌⊎◌, inl, inr, Bool, true, false, ◌==◌, List, [], ◌∷◌, ◌++◌, length, Some, Result, Ok, Err, slice_get, get_or, refl, sym, ◌∙◌, ap, subst, arith}
+use Rattle.std.proofs.Common.{◌≡◌, ◌≢◌, ℕ, zero, suc, ◌+◌, ◌*◌, ◌/◌, ◌%◌, ◌<◌, ◌≤◌, ◌-◌, ℤ, pos, FitsSigned, ◌+ℤ◌, ◌<ℤ◌, ◌⊎◌, inl, inr, Bool, true, false, ◌==◌, List, [], ◌∷◌, ◌++◌, length, Some, Result, Ok, Err, slice_get, get_or, refl, sym, ◌∙◌, ap, subst, arith}
 use Rattle.std.proofs.lemmas.Bool.Decides.{nat_tests}
+use Rattle.std.specs.Int.{w128}
 use Rattle.std.proofs.lemmas.Int.{ints}
-use Rattle.std.proofs.lemmas.Option.{slice_get-get_or, slice_get_within}
+use Rattle.std.proofs.lemmas.Option.{slice_get-get_or, slice_get_within, get_or_from_slice_get}
 use Rattle.st_decimal.specs.declared.number.Dec.{Dec}
 use Rattle.st_ticks.specs.Rules.{AreKept, IsFirstBroken}
 use Rattle.st_ticks.specs.declared.fault.FaceFault.{FaceFault}
@@ -11,6 +12,8 @@ use Rattle.st_ticks.specs.declared.variable.ClockVar.TheVariants.{Coefficients}
 use Rattle.st_ticks.specs.declared.variable.ClockWhy.TheVariants.{NotWhole, NotUnits, Range, Count, NotRising}
 use Rattle.st_clock.specs.declared.coefficient.Coefficient.{Coefficient}
 use Rattle.st_clock.specs.Parts.{IsTick, IsTime, IsRate, IsRecordAt, AreRecords, EachThird, HasNumber, HasUnits, HaveSteps, DoRise, KeepsCoefficients, GivesRecords, fault}
+use Rattle.st_clock.specs.Small.{IsSmall, AreSmall}
+use Rattle.st_clock.proofs.Lasts.{by_place}
 use Rattle.st_clock.proofs.PartLaws.{times_ten_is_one}
 
 broken_count : (values : List Dec) → (KeepsCoefficients values Count → ⊥) → GivesRecords values (Err (Bad (fault Coefficients Count)))
@@ -81,7 +84,7 @@ record_there values records i k d are l g =
     none : Coefficient
     none = record { ticks = 0; time = pos 0; rate = 0 }
 
-same_value : (a b : Dec) (values : List Dec) (i : ℕ) → slice_get values i ≡ Some a → slice_get values i ≡ Some b → a ≡ b
+pub same_value : (a b : Dec) (values : List Dec) (i : ℕ) → slice_get values i ≡ Some a → slice_get values i ≡ Some b → a ≡ b
 same_value a b values i g h = cc
 
 pub range_kept : (values : List Dec) (records : List Coefficient) → AreRecords values records → KeepsCoefficients values Range
@@ -99,10 +102,10 @@ range_kept values records are =
             let at = are.each i r.0 r.1 in
             (r.0.rate, subst (λ (x : Dec). IsRate x r.0.rate) (same_value at.rate d values (3 * i + 2) at.rate_here g) at.rate_is)))
 
-tick_is_one : (d : Dec) (m n : ℕ) → IsTick d m → IsTick d n → m ≡ n
+pub tick_is_one : (d : Dec) (m n : ℕ) → IsTick d m → IsTick d n → m ≡ n
 tick_is_one d m n a b = let e = times_ten_is_one d.digits d.tens (pos m) (pos n) a.number b.number in omega (arith, ints, e)
 
-time_is_one : (d : Dec) (t u : ℤ) → IsTime d t → IsTime d u → t ≡ u
+pub time_is_one : (d : Dec) (t u : ℤ) → IsTime d t → IsTime d u → t ≡ u
 time_is_one d t u a b = times_ten_is_one d.digits (d.tens +ℤ pos 18) t u a.units.value b.units.value
 
 -- the values rise where the records do
@@ -152,3 +155,32 @@ broken_rising values records a b d are never = record {
 pub records_found : (values : List Dec) (records : List Coefficient) → KeepsCoefficients values Count → EachThird 0 values HasNumber → KeepsCoefficients values NotUnits
     → AreRecords values records → HaveSteps records → GivesRecords values (Ok records)
 records_found values records a b d are steps = ((a, (b, (d, (range_kept values records are, (values_rise values records are steps, tt))))), are)
+
+pub records_small : (values : List Dec) (records : List Coefficient) → AreRecords values records → AreSmall records
+records_small values records are i r g =
+    let at = are.each i r g in
+    record { ticks = at.tick_is.small; time = at.time_is.small; rate = at.rate_is.small }
+
+-- the steps up to a place, and one more
+pub one_more_step : (records : List Coefficient) (i : ℕ) (a b : Coefficient) → i + 1 < length records
+    → ((k : ℕ) (r s : Coefficient) → k < i → slice_get records k ≡ Some r → slice_get records (k + 1) ≡ Some s → (r.ticks < s.ticks) × (r.time <ℤ s.time))
+    → ((get_or records i a).ticks < (get_or records (i + 1) b).ticks) × ((get_or records i a).time <ℤ (get_or records (i + 1) b).time)
+    → (k : ℕ) (r s : Coefficient) → k < i + 1 → slice_get records k ≡ Some r → slice_get records (k + 1) ≡ Some s → (r.ticks < s.ticks) × (r.time <ℤ s.time)
+one_more_step records i a b l inv step k r s m g h =
+    by_place k i (λ before. inv k r s before g h)
+    (λ same.
+        let x : get_or records i a ≡ r = get_or_from_slice_get records i r a (subst (λ n. slice_get records n ≡ Some r) same g) in
+        let y : get_or records (i + 1) b ≡ s = get_or_from_slice_get records (i + 1) s b (subst (λ n. slice_get records (n + 1) ≡ Some s) same h) in
+        along (get_or records i a) r (get_or records (i + 1) b) s x y step)
+    (λ after. absurd (omega arith))
+  where
+    along : (a r b s : Coefficient) → a ≡ r → b ≡ s → (a.ticks < b.ticks) × (a.time <ℤ b.time) → (r.ticks < s.ticks) × (r.time <ℤ s.time)
+    along a r b s x y h = subst (λ (z : Coefficient). (r.ticks < z.ticks) × (r.time <ℤ z.time)) y (subst (λ (w : Coefficient). (w.ticks < b.ticks) × (w.time <ℤ b.time)) x h)
+
+pub all_steps : (records : List Coefficient) (i : ℕ) → length records - 1 ≤ i
+    → ((k : ℕ) (r s : Coefficient) → k < i → slice_get records k ≡ Some r → slice_get records (k + 1) ≡ Some s → (r.ticks < s.ticks) × (r.time <ℤ s.time))
+    → HaveSteps records
+all_steps records i l inv k r s g h = let w = slice_get_within records (k + 1) s h in inv k r s (omega arith) g h
+
+pub small_at : (records : List Coefficient) (i : ℕ) (d : Coefficient) → AreSmall records → i < length records → FitsSigned w128 (get_or records i d).time
+small_at records i d small l = let s = small i (get_or records i d) (slice_get-get_or records i d l) in omega (arith, ints, s.time)

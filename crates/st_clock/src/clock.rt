@@ -1,9 +1,12 @@
 //! A clock, and what is asked of it.
 
-ghost use Rattle.std.specs.Prelude.{◌≡◌, ℕ, ◌^◌, ◌≤◌, ◌≤ℤ◌, pos, unsigned_abs, Result};
+ghost use Rattle.std.specs.Prelude.{◌≡◌, ◌⊎◌, Err, ℕ, ◌^◌, ◌≤◌, ◌≤ℤ◌, pos, unsigned_abs, Result};
 ghost use Rattle.st_fraction.specs.Fraction.{units};
 ghost use Rattle.st_enclosure.specs.Ends.{EndsAtMost};
-ghost use Rattle.st_clock.specs.Clock.{IsClock};
+ghost use Rattle.st_clock.specs.Clock.{IsClock, Clock as Seen};
+ghost use Rattle.st_clock.specs.Parts.{GivesClock};
+ghost use Rattle.st_ticks.specs.declared.fault.FaceFault.{FaceFault as Fault};
+ghost use Rattle.st_ticks.specs.declared.fault.FaceFault.TheVariants.{OutOfMemory as NoMemory};
 ghost use Rattle.st_clock.specs.Tick.{TickOf, GivesTicks};
 ghost use Rattle.st_clock.specs.Time.{GivesTime};
 ghost use Rattle.st_clock.specs.declared.point.ClockRange.{ClockRange as Range};
@@ -17,9 +20,13 @@ use crate::nearest::nearest;
 use crate::places::{at_tick, at_time};
 use crate::point::{ClockRange, Point};
 use crate::ticks::{Ticks, TicksUndecided};
+use crate::records::read_records;
+use crate::system::check_system;
+use st_decimal::Dec;
 use st_enclosure::Enc;
 use st_scales::Scale;
-use st_ticks::Face;
+use st_ticks::{Face, FaceFault};
+use std::alloc::Global;
 use std::marker::Model;
 
 /// A spacecraft clock of type 1: its face, the scale of its times, and the records that correlate ticks with times.
@@ -44,6 +51,40 @@ impl Model for Clock {
 }
 
 impl Clock {
+    /// The clock of a face, by the values of `SCLK_DATA_TYPE_n`, of `SCLK01_TIME_SYSTEM_n`, which is 1 where it is empty, and of
+    /// `SCLK01_COEFFICIENTS_n`. After a refusal the face is dropped.
+    ///
+    /// # Errors
+    ///
+    /// [`FaceFault`]: the first fault of the three variables, or that memory was refused.
+    pub fn from_parts(
+        alloc: Global,
+        face: Face,
+        data_type: &[Dec],
+        time_system: &[Dec],
+        coefficients: &[Dec],
+    ) -> Result<Clock, FaceFault>
+        ensures gives { GivesClock face data_type.now time_system.now coefficients.now result }
+        ensures only { (answer : Result Seen Fault) → GivesClock face data_type.now time_system.now coefficients.now answer
+            → (result ≡ answer) ⊎ ((result ≡ Err NoMemory) ⊎ (answer ≡ Err NoMemory)) }
+    {
+        let scale = match check_system(data_type, time_system) {
+            Ok(scale) => scale,
+            Err(fault) => return Err(FaceFault::Bad(fault)),
+        };
+        let records = match read_records(alloc, coefficients) {
+            Ok(records) => records,
+            Err(fault) => return Err(fault),
+        };
+        // What is true of each face comes with its totals.
+        let _total = face.total();
+        Ok(Clock {
+            face,
+            scale,
+            records,
+        })
+    }
+
     /// The fields and partitions, by which ticks are written.
     pub fn face(&self) -> &Face
         ensures value { result.now ≡ self.now.face }

@@ -1,5 +1,6 @@
 use Rattle.std.proofs.Common.{◌≡◌, Bool, true, false, inl, inr, subst, sym}
-use Rattle.st_clock.proofs.RecordLaws.{empty_count, part_count, counted, broken_whole, broken_units, broken_range, broken_rising, records_found}
+use Rattle.std.proofs.lemmas.Result.{err_from_is_err_and}
+use Rattle.st_clock.proofs.RecordLaws.{empty_count, part_count, counted, broken_whole, broken_units, broken_range, broken_rising, records_found, records_small}
 use Rattle.st_clock.proofs.records.read_records.Goals as goal
 
 differ : (b : Bool) → b ≡ true → b ≡ false → ⊥
@@ -27,7 +28,12 @@ returns-then-not-have_units-2-clause-err c =
 
 pub returns-in_err-records-clause-err : goal.returns-in_err-records-clause-err
 returns-in_err-records-clause-err c =
-    let h = c.in_err-records.ensures.err in let g = c.from_residual.ensures in ?
+    let p = err_from_is_err_and c.from_residual.result c.from_residual.ensures.1 in
+    rw (p.1, p.2) (broken_range c.args.values.now c.in_err-records.field-0.0 (counted c.args.values.now c.if-is_empty.ensures c.if-values-ne0.false) (c.are_whole.ensures.0 c.if-not-are_whole.false) (c.have_units.ensures.0 c.if-not-have_units.false, c.have_units-2.ensures.0 c.if-not-have_units-2.false) c.in_err-records.ensures.err)
+
+pub are_rising-requires : goal.are_rising-requires
+are_rising-requires c =
+    rw c.as_slice.ensures.value (records_small c.args.values.now c.in_ok-records.records.items c.in_ok-records.ensures.ok)
 
 pub returns-then-are_rising-clause-ok : goal.returns-then-are_rising-clause-ok
 returns-then-are_rising-clause-ok c =
