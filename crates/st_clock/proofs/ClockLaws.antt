@@ -139,3 +139,9 @@ clock_answer_is_one face dt ts cs (Ok c) (Ok d) g h =
 clock_answer_is_one face dt ts cs (Ok c) (Err (Bad f)) g h = absurd (none_broken (Keeps dt ts cs) clock_rules f g.0 h)
 clock_answer_is_one face dt ts cs (Err (Bad e)) (Ok d) g h = absurd (none_broken (Keeps dt ts cs) clock_rules e h.0 g)
 clock_answer_is_one face dt ts cs (Err (Bad e)) (Err (Bad f)) g h = inl (ap (λ (x : ClockFault). Err (Bad x)) (first_is_one (Keeps dt ts cs) clock_rules e f g h))
+
+pub parts_give_clock : (face : Face) (dt ts cs : List Dec) (c : Clock) → IsFace face → GivesClock face dt ts cs (Ok c) → IsClock c
+parts_give_clock face dt ts cs c is g =
+    let h : GivesRecords cs (Ok c.records) = (g.0.1.1.1.1, g.1.1.1) in
+    let s = clock_sound c.face c.scale cs c.records (subst IsFace (sym g.1.0) is) h in
+    s.clock

@@ -1,11 +1,14 @@
 -- Laws of clocks, each the contract of an empty function of `laws`.
-use Rattle.std.specs.Prelude.{◌≡◌, ℕ, ◌+◌, ◌<◌, ◌<ℤ◌, pos, List, Some}
+use Rattle.std.specs.Prelude.{◌≡◌, ℕ, ◌+◌, ◌<◌, ◌<ℤ◌, pos, List, Some, Ok}
 use Rattle.std.specs.List.{slice_get}
 use Rattle.st_fraction.specs.Fraction.{Fraction, IsFraction, ◌≤ᶠ◌, ◌<ᶠ◌, ◌≈ᶠ◌, over, ◌+ᶠ◌, ◌-ᶠ◌, ◌*ᶠ◌, IsNear}
+use Rattle.st_decimal.specs.declared.number.Dec.{Dec}
+use Rattle.st_ticks.specs.Face.{Face, IsFace}
 use Rattle.st_clock.specs.declared.coefficient.Coefficient.{Coefficient}
 use Rattle.st_clock.specs.declared.ticks.Ticks.{Ticks}
 use Rattle.st_clock.specs.declared.ticks.Ticks.TheVariants.{At}
 use Rattle.st_clock.specs.Clock.{Clock, tpm, AreRising, IsClock, IsTimeOf, line_time}
+use Rattle.st_clock.specs.Parts.{GivesClock}
 use Rattle.st_clock.specs.Tick.{TickOf, IsNoLater}
 use Rattle.st_clock.specs.Covered.{IsCovered, tick_length, half_tick}
 
@@ -52,3 +55,9 @@ StepsRise =
     → ((i : ℕ) (r s : Coefficient) → slice_get records i ≡ Some r → slice_get records (i + 1) ≡ Some s
       → (r.ticks < s.ticks) × (r.time <ℤ s.time))
     → AreRising records
+
+-- what is made of good values is a clock
+abbrev pub PartsGiveClock : Type 0
+PartsGiveClock =
+    (face : Face) (data_type time_system coefficients : List Dec) (c : Clock) → IsFace face
+    → GivesClock face data_type time_system coefficients (Ok c) → IsClock c

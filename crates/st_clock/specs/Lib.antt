@@ -8,3 +8,4 @@ pub mod Nearest
 pub mod InForce
 pub mod Kept
 pub mod Parts
+pub mod Return

@@ -6,6 +6,7 @@
 
 mod clock;
 mod coefficient;
+pub mod laws;
 mod line;
 mod nearest;
 mod number;
