@@ -14,3 +14,4 @@ pub mod Wholes
 pub mod Gathers
 pub mod RecordLaws
 pub mod ClockLaws
+pub mod Returns

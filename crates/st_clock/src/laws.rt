@@ -1,5 +1,6 @@
 //! Laws of clocks, over all fractions. These functions do nothing: their contracts are the laws.
 
+ghost use Rattle.st_clock.specs.Return.{TickReturns, WayBackIsDecided};
 ghost use Rattle.st_clock.specs.Laws.{TickRises, TickIsOne, TickIsFound, TickBetween, TickWithinHalf, TickWithinQuarter, TimeIsOne, StepsRise, PartsGiveClock};
 
 /// Each time has one tick, and the ticks never fall as the time rises.
@@ -23,5 +24,12 @@ pub fn records()
     ensures time { TimeIsOne }
     ensures steps { StepsRise }
     ensures clock { PartsGiveClock }
+{
+}
+
+/// A covered tick's time, printed in TDB, gives that tick back.
+pub fn way_back()
+    ensures returns { TickReturns }
+    ensures decided { WayBackIsDecided }
 {
 }
