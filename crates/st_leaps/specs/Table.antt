@@ -1,6 +1,6 @@
 -- Tables of leap seconds, by the header of NAIF's leapseconds kernels and Time Required Reading:
 -- from its date on, TAI is a pair's count of seconds ahead of UTC. That a count may be one less than
--- the one before, so that a second is removed, is this project's reading.
+-- the one before, so that a second is removed, is this project's reading; so are the limits.
 use Rattle.std.specs.Prelude.{◌≡◌, ℕ, ◌+◌, ◌≤◌, ℤ, pos, ◌-ℤ◌, ◌<ℤ◌, int_le, unsigned_abs, List, [], ◌∷◌, length, slice_get, reverse, find, Option, Some, None}
 use Rattle.std.specs.List.{All}
 use Rattle.st_dates.specs.AtDate.{moment}

@@ -42,7 +42,7 @@ impl Deltet {
     ///
     /// # Errors
     ///
-    /// The first fault of the numbers, in the order that `DeltetFault` tells. What is 10^20 s or
+    /// The first fault of the numbers, in the order that `DeltetFault` tells. What is 10^20 or
     /// more is out of range, and no fault of units.
     pub fn from_numbers(
         delta_ta: &[Dec],

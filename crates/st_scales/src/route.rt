@@ -8,11 +8,8 @@ ghost use Rattle.st_scales.specs.Route.{HasValue, HasNoSineOnIt, shift};
 
 use crate::deltet::Deltet;
 use crate::scale::Scale;
-use st_enclosure::Enc;
+use st_enclosure::{Enc, UNIT};
 use st_sine::anomaly_sine;
-
-/// The units in one.
-const UNIT: i128 = 1_000_000_000_000_000_000;
 
 /// An enclosure of the value in the scale `to` of each time in the scale `from` that `r` contains, in
 /// units of 10^-18 s past J2000.
