@@ -1,21 +1,20 @@
 -- The canonical spelling of a tick is read as that tick.
-use Rattle.std.proofs.Common.{◌≡◌, ℕ, ◌+◌, ◌-◌, ◌*◌, ◌/◌, ◌%◌, ◌^◌, ◌<◌, ◌≤◌, ◌⊎◌, zero, suc, inl, inr, true, refl, sym, ap, ◌∙◌, subst, arith, Option, Some, None, List, [], ◌∷◌, ◌++◌, length, map, append_assoc, length-append}
+use Rattle.std.proofs.Common.{◌≡◌, ℕ, ◌+◌, ◌-◌, ◌*◌, ◌/◌, ◌%◌, ◌^◌, ◌<◌, ◌≤◌, suc, inl, inr, true, refl, sym, ap, ◌∙◌, subst, arith, Some, List, [], ◌∷◌, ◌++◌, length, map, append_assoc, length-append}
 use Rattle.std.specs.List.{All, join_with_byte, slice_get}
 use Rattle.std.proofs.Math.Nat.{mod-lt, mod-le, div-le_self}
 use Rattle.std.specs.Int.Digits.{digits_of}
 use Rattle.std.proofs.lemmas.List.{append-nil, length-replicate, length-map}
 use Rattle.std.proofs.lemmas.List.Elements.{All-nil, All-cons, All-get_or}
 use Rattle.std.proofs.lemmas.Option.{get_or_from_slice_get, slice_get_within}
-use Rattle.std.proofs.lemmas.Nat.{div_below}
-use Rattle.st_text.specs.Bytes.{padded, decimal_digits, number_of, are_digits}
+use Rattle.st_text.specs.Bytes.{padded, decimal_digits, number_of}
 use Rattle.st_text.proofs.Spelled.{number_of-padded, are_digits-padded}
-use Rattle.st_ticks.specs.ClockText.{is_mark, IsRun, IsGap, IsSeparator, Surrounds, Parts, SpellsFields, SpellsPartition, Spells}
+use Rattle.st_ticks.specs.ClockText.{is_mark, IsRun, IsSeparator, Parts, SpellsFields, Spells}
 use Rattle.st_ticks.specs.Face.{Face, IsFace, IsField, IsPartition, IsDelimiter, span, ticks_in, earlier, total}
 use Rattle.st_ticks.specs.Laws.{CanonicalReads}
-use Rattle.st_ticks.specs.Reading.{values, count_of, count, AreFromOffsets, Contains, IsMeant, Keeps, text_rules, IsTickOf, SpellsTick}
+use Rattle.st_ticks.specs.Reading.{count_of, count, AreFromOffsets, IsMeant, Keeps, text_rules, SpellsTick}
 use Rattle.st_ticks.specs.Rules.{AreKept}
 use Rattle.st_ticks.specs.Tick.{IsPartitionOf, count_at, fields_of, width, field_texts, spelled}
-use Rattle.st_ticks.specs.TickMachine.{place_of, partition_of, canonical}
+use Rattle.st_ticks.specs.TickMachine.{place_of, partition_of}
 use Rattle.st_ticks.specs.declared.field.Field.{Field}
 use Rattle.st_ticks.specs.declared.field.Partition.{Partition}
 use Rattle.st_ticks.proofs.FaceLaws.{at_place, tick_in_partition}

@@ -1,9 +1,9 @@
 -- The count of a string's fields, one field after the other.
-use Rattle.std.proofs.Common.{◌≡◌, ℕ, ◌+◌, ◌-◌, ◌*◌, ◌/◌, ◌^◌, ◌<◌, ◌≤◌, zero, suc, Bool, true, false, ◌&&◌, nat_le, min, List, [], ◌∷◌, ◌++◌, length, take, drop, get_or, refl, sym, ap, ◌∙◌, subst, arith, add-one}
-use Rattle.std.specs.List.{All, list_all}
+use Rattle.std.proofs.Common.{◌≡◌, ℕ, ◌+◌, ◌-◌, ◌*◌, ◌/◌, ◌^◌, ◌<◌, ◌≤◌, zero, suc, true, ◌&&◌, nat_le, min, List, [], ◌∷◌, length, take, drop, get_or, refl, ap, ◌∙◌, arith, add-one}
+use Rattle.std.specs.List.{All}
 use Rattle.std.proofs.Math.Nat.{mul-div_cancel_left, mul-le-mul_right}
 use Rattle.std.proofs.lemmas.Bool.Decides.{nat_tests}
-use Rattle.std.proofs.lemmas.List.{drop_more, drop_all, at_drop_all}
+use Rattle.std.proofs.lemmas.List.{drop_more, drop_all}
 use Rattle.std.proofs.lemmas.List.Elements.{All-get_or}
 use Rattle.std.proofs.lemmas.List.Sums.{AllPass-from_list_all}
 use Rattle.std.proofs.lemmas.Nat.{mul-le}
@@ -14,7 +14,7 @@ use Rattle.st_ticks.specs.Reading.{count_of}
 use Rattle.st_ticks.specs.ReadingMachine.{from_offsets, are_small}
 use Rattle.st_ticks.specs.declared.field.Field.{Field}
 use Rattle.st_ticks.proofs.Cuts.{head_passes, tail_passes}
-use Rattle.st_ticks.proofs.FieldLaws.{span_some, field_here, fields_there}
+use Rattle.st_ticks.proofs.FieldLaws.{field_here, fields_there}
 
 abbrev pub no_field : Field
 no_field = record { modulus = 0; offset = 0 }

@@ -1,14 +1,14 @@
 -- The calls of a face, over what it is seen as.
-use Rattle.std.proofs.Common.{◌≡◌, ℕ, ◌+◌, ◌-◌, ◌*◌, ◌^◌, ◌<◌, ◌≤◌, zero, suc, Bool, true, false, ◌&&◌, nat_le, nat_lt, inl, inr, refl, sym, ap, ◌∙◌, subst, arith, Option, Some, None, Result, Ok, Err, List, [], ◌∷◌, ◌++◌, length, take, get_or, sum_by, append_assoc}
+use Rattle.std.proofs.Common.{◌≡◌, ℕ, ◌+◌, ◌-◌, ◌^◌, ◌<◌, ◌≤◌, zero, suc, Bool, true, false, ◌&&◌, nat_le, nat_lt, inl, inr, refl, sym, ap, ◌∙◌, subst, arith, Option, Some, None, Err, List, [], ◌∷◌, ◌++◌, length, take, get_or, sum_by, append_assoc}
 use Rattle.std.specs.List.{slice_get}
 use Rattle.std.specs.List.Sorted.{IsNonDecreasingBy}
 use Rattle.std.proofs.lemmas.Bool.{cases_lt}
 use Rattle.std.proofs.lemmas.Bool.Decides.{nat_tests}
-use Rattle.std.proofs.lemmas.List.Sums.{sum_by_more, sum_by_more_le}
+use Rattle.std.proofs.lemmas.List.Sums.{sum_by_more}
 use Rattle.std.proofs.lemmas.List.{take_all}
 use Rattle.std.proofs.lemmas.List.Elements.{All-get_or}
 use Rattle.std.proofs.lemmas.Option.{slice_get-get_or, get_or_from_slice_get}
-use Rattle.st_text.specs.Bytes.{padded, decimal_digits}
+use Rattle.st_text.specs.Bytes.{decimal_digits}
 use Rattle.st_ticks.specs.ClockText.{Parts}
 use Rattle.st_ticks.specs.Face.{Face, IsFace, IsPartition, ticks_in, earlier, total}
 use Rattle.st_ticks.specs.FaceParts.{AreBegins}
@@ -19,14 +19,11 @@ use Rattle.st_ticks.specs.SpellingMachine.{fields_text}
 use Rattle.st_ticks.specs.TextMachine.{parts_of}
 use Rattle.st_ticks.specs.Tick.{IsPartitionOf, IsCanonical, spelled, count_at}
 use Rattle.st_ticks.specs.TickMachine.{place_of, partition_of, canonical}
-use Rattle.st_ticks.specs.ValueList.{HoldsFields}
 use Rattle.st_ticks.specs.WrittenText.{HoldsParts}
 use Rattle.st_ticks.specs.declared.clock_text.Written.{Written}
-use Rattle.st_ticks.specs.declared.fault.ClockTextFault.{ClockTextFault}
-use Rattle.st_ticks.specs.declared.fault.ClockTextFault.TheVariants.{Form, TooManyFields, NoPartition, FieldBelowOffset, TooLarge, NotInPartition}
-use Rattle.st_ticks.specs.declared.field.Field.{Field}
+use Rattle.st_ticks.specs.declared.fault.ClockTextFault.TheVariants.{Form, TooManyFields, NoPartition, FieldBelowOffset, TooLarge}
 use Rattle.st_ticks.specs.declared.field.Partition.{Partition}
-use Rattle.st_ticks.proofs.PartitionLaws.{partition_is_one, place_of_is, within_total, same_element}
+use Rattle.st_ticks.proofs.PartitionLaws.{partition_is_one, place_of_is, same_element}
 use Rattle.st_ticks.proofs.SpellingLaws.{fields_text-joined}
 
 -- the tick of values

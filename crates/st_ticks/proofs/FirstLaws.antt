@@ -1,5 +1,5 @@
 -- The first broken rule of a list is one.
-use Rattle.std.proofs.Common.{◌≡◌, List, [], ◌∷◌, ◌++◌, refl, sym, ◌∙◌, subst, ap}
+use Rattle.std.proofs.Common.{◌≡◌, List, [], ◌∷◌, ◌++◌, sym, ◌∙◌, subst}
 use Rattle.st_ticks.specs.Rules.{AreKept, IsFirstBroken}
 
 heads : {R : Type 0} (a b : R) (xs ys : List R) → a ∷ xs ≡ b ∷ ys → a ≡ b

@@ -1,6 +1,6 @@
 -- The tests of the reader say what the rules of clock strings ask.
-use Rattle.std.proofs.Common.{◌≡◌, ℕ, ◌+◌, ◌-◌, ◌*◌, ◌^◌, ◌<◌, ◌≤◌, zero, suc, Bool, true, false, ◌&&◌, nat_le, nat_lt, min, inl, inr, refl, sym, ap, ◌∙◌, subst, arith, Option, Some, None, Result, Ok, Err, List, [], ◌∷◌, length, map, get_or}
-use Rattle.std.specs.List.{All, list_all, slice_get, position, position_or_len}
+use Rattle.std.proofs.Common.{◌≡◌, ℕ, ◌+◌, ◌-◌, ◌*◌, ◌^◌, ◌<◌, ◌≤◌, Bool, true, false, ◌&&◌, nat_le, nat_lt, min, inl, inr, refl, sym, ap, ◌∙◌, subst, arith, Option, Some, None, Result, Err, List, [], ◌∷◌, length, map, get_or}
+use Rattle.std.specs.List.{All, position, position_or_len}
 use Rattle.std.proofs.lemmas.Bool.{cases_Bool}
 use Rattle.std.proofs.lemmas.Bool.Decides.{nat_tests}
 use Rattle.std.proofs.lemmas.List.Elements.{All-nil, All-cons, All-head, All-tail}
@@ -8,15 +8,14 @@ use Rattle.std.proofs.lemmas.List.Quantifiers.{position-Some}
 use Rattle.std.proofs.lemmas.List.Sums.{fails_before_first}
 use Rattle.std.proofs.lemmas.Option.{slice_get-get_or, slice_get_within, get_or_from_slice_get}
 use Rattle.st_text.specs.Bytes.{number_of}
-use Rattle.st_ticks.specs.ClockText.{Parts, Spells}
+use Rattle.st_ticks.specs.ClockText.{Parts}
 use Rattle.st_ticks.specs.Face.{Face, IsFace, IsField, earlier}
 use Rattle.st_ticks.specs.Laws.{ReadingIsFound}
-use Rattle.st_ticks.specs.Reading.{values, count_of, count, AreFromOffsets, Contains, IsMeant, IsNumbered, Keeps, text_rules, IsTickOf, ReadsClock}
+use Rattle.st_ticks.specs.Reading.{values, count_of, count, AreFromOffsets, Contains, IsMeant, IsNumbered, Keeps, IsTickOf, ReadsClock}
 use Rattle.st_ticks.specs.ReadingMachine.{capped, capped_values, capped_partition, from_offsets, are_small, is_numbered, has_count, partition_at, meant_place, ticked, counted_of, judged, clock_of}
-use Rattle.st_ticks.specs.Rules.{AreKept, IsFirstBroken}
 use Rattle.st_ticks.specs.TextMachine.{parts_of}
 use Rattle.st_ticks.specs.declared.fault.ClockTextFault.{ClockTextFault}
-use Rattle.st_ticks.specs.declared.fault.ClockTextFault.TheVariants.{Form, TooManyFields, NoPartition, FieldBelowOffset, TooLarge, NotInPartition}
+use Rattle.st_ticks.specs.declared.fault.ClockTextFault.TheVariants.{TooManyFields, NoPartition, FieldBelowOffset, TooLarge, NotInPartition}
 use Rattle.st_ticks.specs.declared.field.Field.{Field}
 use Rattle.st_ticks.specs.declared.field.Partition.{Partition}
 use Rattle.st_ticks.proofs.Cuts.{head_passes, tail_passes}

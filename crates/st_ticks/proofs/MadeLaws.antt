@@ -1,12 +1,12 @@
 -- What making a face answers.
-use Rattle.std.proofs.Common.{◌≡◌, ℕ, ◌+◌, ◌-◌, ◌^◌, ◌<◌, ◌≤◌, zero, suc, refl, sym, ap, ◌∙◌, subst, arith, Result, Ok, Err, List, [], ◌∷◌, ◌++◌, length, get_or, sum_by, append_assoc}
+use Rattle.std.proofs.Common.{◌≡◌, ℕ, ◌^◌, ◌<◌, ◌≤◌, refl, sym, ap, ◌∙◌, subst, arith, Ok, Err, List, [], ◌∷◌, ◌++◌, length, get_or, sum_by, append_assoc}
 use Rattle.std.specs.List.{All}
 use Rattle.std.proofs.lemmas.List.Elements.{All-from_get_or}
 use Rattle.st_decimal.specs.declared.number.Dec.{Dec}
 use Rattle.st_ticks.specs.Face.{Face, ticks_in}
 use Rattle.st_ticks.specs.MakingMachine.{LacksEnds}
 use Rattle.st_ticks.specs.Rules.{AreKept, IsFirstBroken}
-use Rattle.st_ticks.specs.Variables.{Numbers, HaveEnds, HaveModuli, HaveOffsets, IsNumber, Keeps, IsMadeOf, MakesFace, rule, first_rules, face_rules}
+use Rattle.st_ticks.specs.Variables.{Numbers, HaveEnds, Keeps, IsMadeOf, MakesFace, rule, first_rules, face_rules}
 use Rattle.st_ticks.specs.declared.fault.FaceFault.{FaceFault}
 use Rattle.st_ticks.specs.declared.fault.FaceFault.TheVariants.{Bad, OutOfMemory}
 use Rattle.st_ticks.specs.declared.field.Partition.{Partition}

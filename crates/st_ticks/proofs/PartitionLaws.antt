@@ -1,15 +1,14 @@
 -- Partitions of ticks: each tick has one.
-use Rattle.std.proofs.Common.{◌≡◌, ℕ, ◌+◌, ◌-◌, ◌<◌, ◌≤◌, zero, suc, Bool, true, false, Option, None, List, [], ◌∷◌, length, take, get_or, Some, nat_lt, refl, sym, ◌∙◌, ap, subst, inl, inr, arith, sum_by}
+use Rattle.std.proofs.Common.{◌≡◌, ℕ, ◌+◌, ◌-◌, ◌<◌, ◌≤◌, zero, suc, Option, None, List, [], ◌∷◌, length, take, get_or, Some, nat_lt, subst, inl, inr, arith, sum_by}
 use Rattle.std.specs.List.{slice_get}
 use Rattle.std.proofs.lemmas.Bool.{cases_Bool}
 use Rattle.std.proofs.lemmas.Bool.Decides.{nat_tests}
-use Rattle.std.proofs.lemmas.List.Sums.{sum_by-cons, sum_by_more_le, sum_by-take-le}
-use Rattle.std.proofs.lemmas.Nat.{mod_below}
+use Rattle.std.proofs.lemmas.List.Sums.{sum_by-cons, sum_by_more_le}
 use Rattle.std.proofs.lemmas.Option.{get_or_from_slice_get, slice_get_within}
-use Rattle.st_ticks.specs.Face.{Face, IsFace, ticks_in, total, earlier}
+use Rattle.st_ticks.specs.Face.{Face, ticks_in, total, earlier}
 use Rattle.st_ticks.specs.Laws.{PartitionIsOne, PartitionIsFound, InsideIsWithin, TickIsWithin}
-use Rattle.st_ticks.specs.Reading.{SpellsTick, count, IsMeant, Contains}
-use Rattle.st_ticks.specs.Tick.{IsPartitionOf, IsStrictlyInside, count_at}
+use Rattle.st_ticks.specs.Reading.{count, IsMeant, Contains}
+use Rattle.st_ticks.specs.Tick.{IsPartitionOf, count_at}
 use Rattle.st_ticks.specs.TickMachine.{place_in, place_of}
 use Rattle.st_ticks.specs.declared.field.Partition.{Partition}
 

@@ -1,15 +1,14 @@
 -- The parts of a clock string: a text has one list of them, and the reader finds it.
-use Rattle.std.proofs.Common.{◌≡◌, ℕ, zero, suc, ◌+◌, ◌<◌, ◌≤◌, Bool, true, false, ◌==◌, inl, inr, refl, sym, ap, ◌∙◌, subst, arith, Option, Some, None, List, [], ◌∷◌, ◌++◌, length, append_assoc}
+use Rattle.std.proofs.Common.{◌≡◌, ℕ, ◌<◌, true, false, ◌==◌, inl, inr, refl, sym, ap, ◌∙◌, subst, arith, Option, Some, None, List, [], ◌∷◌, ◌++◌, length, append_assoc}
 use Rattle.std.proofs.lemmas.Bool.{cases_Bool}
 use Rattle.std.proofs.lemmas.Bool.Decides.{nat_tests}
 use Rattle.std.proofs.lemmas.Option.{some_pair_parts}
-use Rattle.std.specs.Char.{is_ascii_digit}
-use Rattle.st_text.specs.Bytes.{is_blank, are_blanks, are_digits}
+use Rattle.st_text.specs.Bytes.{are_blanks, are_digits}
 use Rattle.st_text.specs.Lines.{skip_blanks}
-use Rattle.st_ticks.specs.ClockText.{IsRun, Surrounds, Parts, SpellsFields, SpellsPartition, Spells}
+use Rattle.st_ticks.specs.ClockText.{IsRun, Parts, SpellsFields, SpellsPartition, Spells}
 use Rattle.st_ticks.specs.TextMachine.{◌>>=◌, digits, past_digits, past_slash, runs, partition_in, with_fields, parts_after, parts_of}
-use Rattle.st_ticks.proofs.Cuts.{Stops, joined, digits_are, digits-at, past-at, head_passes}
-use Rattle.st_ticks.proofs.TextLaws.{skipped, NoBlank, Starts, skip-at, skip_all, starts_no_blank, starts_more, run_starts, fields_start, blank_no_digit, Fielded, fielded, runs_at, slash_behind, no_partition_fields}
+use Rattle.st_ticks.proofs.Cuts.{Stops, joined, digits_are, digits-at, past-at}
+use Rattle.st_ticks.proofs.TextLaws.{skipped, Starts, skip-at, starts_no_blank, starts_more, run_starts, fields_start, Fielded, fielded, runs_at, slash_behind, no_partition_fields}
 
 some_digits : (d : List ℕ) → (length d == 0) ≡ false → 0 < length d
 some_digits d h = grind (arith, nat_tests)

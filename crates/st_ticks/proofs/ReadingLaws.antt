@@ -1,10 +1,10 @@
 -- A text has one answer.
-use Rattle.std.proofs.Common.{◌≡◌, ℕ, ◌+◌, ◌-◌, ◌<◌, ◌≤◌, ◌⊎◌, inl, inr, refl, sym, ap, ◌∙◌, subst, arith, Option, Some, None, Result, Ok, Err, List, [], ◌∷◌}
+use Rattle.std.proofs.Common.{◌≡◌, ℕ, ◌+◌, ◌-◌, ◌<◌, refl, sym, ap, ◌∙◌, subst, arith, Option, Some, None, Result, Ok, Err, List}
 use Rattle.std.specs.List.{slice_get}
 use Rattle.st_ticks.specs.ClockText.{Parts, Spells}
 use Rattle.st_ticks.specs.Face.{Face, earlier}
 use Rattle.st_ticks.specs.Laws.{ReadingIsOne}
-use Rattle.st_ticks.specs.Reading.{count, Contains, IsMeant, Keeps, text_rules, IsTickOf, SpellsTick, Refuses, ReadsClock}
+use Rattle.st_ticks.specs.Reading.{count, IsMeant, Keeps, text_rules, IsTickOf, ReadsClock}
 use Rattle.st_ticks.specs.Rules.{AreKept, IsFirstBroken}
 use Rattle.st_ticks.specs.declared.fault.ClockTextFault.{ClockTextFault}
 use Rattle.st_ticks.specs.declared.fault.ClockTextFault.TheVariants.{Form, TooManyFields, NoPartition, FieldBelowOffset, TooLarge, NotInPartition}

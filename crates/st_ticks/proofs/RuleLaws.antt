@@ -1,5 +1,5 @@
 -- What the code finds out of the rules.
-use Rattle.std.proofs.Common.{◌≡◌, ℕ, ◌+◌, ◌-◌, ◌*◌, ◌^◌, ◌<◌, ◌≤◌, zero, suc, Bool, true, false, is_some, refl, sym, ap, ◌∙◌, subst, arith, Option, Some, None, IfSome, IfNone, IsTrue, List, [], ◌∷◌, ◌++◌, length, take, drop, get_or}
+use Rattle.std.proofs.Common.{◌≡◌, ℕ, ◌-◌, ◌*◌, ◌^◌, ◌<◌, ◌≤◌, zero, suc, true, false, is_some, refl, sym, ap, ◌∙◌, subst, arith, Option, Some, None, IfSome, IfNone, IsTrue, List, [], ◌∷◌, ◌++◌, length, take, drop, get_or}
 use Rattle.std.specs.List.{All}
 use Rattle.std.proofs.Math.Nat.{mul-le-mul_right}
 use Rattle.std.proofs.lemmas.List.{take_all}

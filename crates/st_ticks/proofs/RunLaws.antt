@@ -1,11 +1,11 @@
 -- The fields of a text, one after the other.
-use Rattle.std.proofs.Common.{◌≡◌, ℕ, zero, suc, ◌+◌, ◌<◌, ◌≤◌, Bool, true, false, ◌==◌, inl, inr, refl, sym, ap, ◌∙◌, arith, Option, Some, None, List, [], ◌∷◌, ◌++◌, length, append_assoc, length-append}
+use Rattle.std.proofs.Common.{◌≡◌, ℕ, zero, suc, ◌+◌, ◌<◌, ◌≤◌, true, false, ◌==◌, inl, inr, refl, sym, ap, ◌∙◌, arith, Option, Some, None, List, [], ◌∷◌, ◌++◌, length, append_assoc, length-append}
 use Rattle.std.proofs.lemmas.Bool.{cases_Bool}
 use Rattle.std.proofs.lemmas.Bool.Decides.{nat_tests}
 use Rattle.st_text.specs.Bytes.{is_blank, are_blanks}
 use Rattle.st_text.specs.Lines.{skip_blanks}
 use Rattle.st_ticks.specs.ClockText.{is_mark}
-use Rattle.st_ticks.specs.TextMachine.{◌>>=◌, digits, past_digits, past_mark, past_gap, past_separator, Next, stop, last, more, next_before, next_of, onto, runs_from, runs_of, runs}
+use Rattle.st_ticks.specs.TextMachine.{digits, past_digits, past_mark, past_gap, past_separator, Next, stop, last, more, next_before, next_of, onto, runs_from, runs_of, runs}
 use Rattle.st_ticks.proofs.Cuts.{joined}
 
 -- fields before those that are read

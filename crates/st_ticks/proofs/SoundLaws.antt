@@ -1,15 +1,15 @@
 -- A face that is made of numbers which keep all rules is one.
-use Rattle.std.proofs.Common.{◌≡◌, ℕ, ◌+◌, ◌-◌, ◌*◌, ◌^◌, ◌<◌, ◌≤◌, ◌⊎◌, ◌==◌, zero, suc, inl, inr, refl, sym, ap, ◌∙◌, subst, arith, List, [], ◌∷◌, ◌++◌, length, get_or, sum_by}
+use Rattle.std.proofs.Common.{◌≡◌, ℕ, ◌^◌, ◌≤◌, ◌==◌, suc, inl, inr, refl, ap, arith, List, [], ◌∷◌, length, get_or}
 use Rattle.std.specs.List.{All}
 use Rattle.std.proofs.lemmas.Bool.{cases_Bool}
 use Rattle.std.proofs.lemmas.List.Elements.{All-nil, All-cons, All-head, All-tail, All-get_or}
 use Rattle.st_decimal.specs.declared.number.Dec.{Dec}
-use Rattle.st_ticks.specs.Face.{Face, IsFace, IsField, IsPartition, IsDelimiter, span_of_rest, total, tpm, ticks_in}
+use Rattle.st_ticks.specs.Face.{Face, IsFace, IsField, IsPartition, IsDelimiter, span_of_rest, total}
 use Rattle.st_ticks.specs.Rules.{AreKept}
 use Rattle.st_ticks.specs.Variables.{Numbers, HaveEnds, HaveModuli, HaveOffsets, IsFrom, IsNumber, Keeps, first_rules, delimiter_of}
 use Rattle.st_ticks.specs.declared.field.Field.{Field}
 use Rattle.st_ticks.specs.declared.field.Partition.{Partition}
-use Rattle.st_ticks.proofs.MakingLaws.{no_dec, from_at, low_at}
+use Rattle.st_ticks.proofs.MakingLaws.{no_dec, low_at}
 use Rattle.st_ticks.proofs.RuleLaws.{rest_is_one}
 use Rattle.st_ticks.proofs.WholeLaws.{same_number}
 

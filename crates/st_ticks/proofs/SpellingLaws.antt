@@ -1,13 +1,13 @@
 -- Printed fields, one after the other.
-use Rattle.std.proofs.Common.{◌≡◌, ℕ, ◌+◌, ◌-◌, ◌*◌, ◌/◌, ◌%◌, ◌^◌, ◌<◌, ◌≤◌, zero, suc, List, [], ◌∷◌, ◌++◌, length, map, replicate, drop, get_or, refl, sym, ap, ◌∙◌, arith, append_assoc, length-append}
+use Rattle.std.proofs.Common.{◌≡◌, ℕ, ◌+◌, ◌-◌, ◌/◌, ◌%◌, ◌^◌, ◌<◌, ◌≤◌, zero, suc, List, [], ◌∷◌, ◌++◌, length, drop, get_or, refl, sym, ap, arith, length-append}
 use Rattle.std.specs.Int.Digits.{digits_of}
 use Rattle.std.specs.List.{join_with_byte}
 use Rattle.std.proofs.lemmas.Int.Digits.{length-digits_of_step, length-digits_of-le}
 use Rattle.std.proofs.lemmas.List.{drop_more, length-replicate, length-map}
-use Rattle.st_text.specs.Bytes.{padded, decimal_digits}
+use Rattle.st_text.specs.Bytes.{decimal_digits}
 use Rattle.st_ticks.specs.Face.{span}
 use Rattle.st_ticks.specs.SpellingMachine.{field_text, more_text, fields_text}
-use Rattle.st_ticks.specs.Tick.{width, fields_of, field_texts}
+use Rattle.st_ticks.specs.Tick.{fields_of, field_texts}
 use Rattle.st_ticks.specs.declared.field.Field.{Field}
 use Rattle.st_ticks.proofs.CountLaws.{no_field}
 

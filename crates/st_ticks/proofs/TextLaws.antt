@@ -1,16 +1,16 @@
 -- The reader of fields and of the partition meets what a clock string is: a text that is read is spelled so, and a text that
 -- is spelled so is read.
-use Rattle.std.proofs.Common.{◌≡◌, ℕ, zero, suc, ◌+◌, ◌<◌, ◌≤◌, ◌⊎◌, Bool, true, false, ◌&&◌, ◌==◌, inl, inr, refl, sym, ap, ◌∙◌, subst, arith, Option, Some, None, List, [], ◌∷◌, ◌++◌, length, append_assoc, length-append}
+use Rattle.std.proofs.Common.{◌≡◌, ℕ, zero, suc, ◌<◌, Bool, true, false, ◌&&◌, ◌==◌, inl, inr, refl, sym, ap, ◌∙◌, subst, arith, Option, Some, None, List, [], ◌∷◌, ◌++◌, length, append_assoc}
 use Rattle.std.proofs.lemmas.Bool.{cases_Bool}
 use Rattle.std.proofs.lemmas.Bool.Decides.{nat_tests}
 use Rattle.std.proofs.lemmas.List.Folds.{list_all-append}
 use Rattle.std.specs.Char.{is_ascii_digit}
 use Rattle.st_text.specs.Bytes.{is_blank, are_blanks, are_digits}
 use Rattle.st_text.specs.Lines.{skip_blanks}
-use Rattle.st_ticks.specs.ClockText.{is_mark, IsRun, IsGap, Surrounds, IsSeparator, Parts, SpellsFields, SpellsPartition, Spells}
-use Rattle.st_ticks.specs.TextMachine.{◌>>=◌, digits, past_digits, past_mark, past_gap, past_slash, past_separator, Next, stop, last, more, next_of, onto, runs_from, runs_of, runs, partition_in, with_fields, parts_after, parts_of}
+use Rattle.st_ticks.specs.ClockText.{is_mark, IsRun, IsGap, IsSeparator, SpellsFields}
+use Rattle.st_ticks.specs.TextMachine.{digits, past_digits, past_mark, past_gap, past_slash, past_separator, Next, stop, last, more, next_of, onto, runs_from, runs_of, runs, partition_in}
 use Rattle.st_ticks.proofs.Cuts.{Stops, joined, digits_are, digits-at, past-at, head_passes, tail_passes}
-use Rattle.st_ticks.proofs.RunLaws.{Past, by_mark, by_gap, separator_is, IsLast, IsMore, is_last, is_more, next_last, next_more, runs_last, runs_more, runs_stop, runs_turn, enough, more_shorter}
+use Rattle.st_ticks.proofs.RunLaws.{Past, by_mark, by_gap, separator_is, IsLast, IsMore, is_last, is_more, runs_last, runs_more}
 
 -- bytes of one kind are of no other
 pub blank_no_digit : (b : ℕ) → is_blank b ≡ true → is_ascii_digit b ≡ false

@@ -1,5 +1,5 @@
 -- Whole numbers as decimals write them.
-use Rattle.std.proofs.Common.{◌≡◌, ℕ, ℤ, pos, negsuc, ◌+◌, ◌-◌, ◌*◌, ◌/◌, ◌%◌, ◌^◌, ◌<◌, ◌≤◌, ◌*ℤ◌, ◌<ℤ◌, ◌≤ℤ◌, zero, suc, true, false, refl, sym, ap, ◌∙◌, subst, arith}
+use Rattle.std.proofs.Common.{◌≡◌, ℕ, ℤ, pos, negsuc, ◌/◌, ◌%◌, ◌^◌, ◌<◌, ◌≤◌, ◌*ℤ◌, suc, true, false, refl, sym, ap, ◌∙◌, subst, arith}
 use Rattle.std.specs.Prelude.{unsigned_abs}
 use Rattle.std.specs.Int.Signed.{le_z}
 use Rattle.std.proofs.Math.Nat.{pow-le-pow_right, eq_of_mul-eq-mul_right}
@@ -8,7 +8,7 @@ use Rattle.st_decimal.specs.Scaling.{IsTimesTen}
 use Rattle.st_decimal.specs.ScalingMachine.{IsSizeTimesTen, with_sign_of}
 use Rattle.st_decimal.specs.declared.number.Dec.{Dec}
 use Rattle.st_decimal.proofs.ScalingLaws.{power_some, lowered_part, lowered_whole, lowered_over, with_sign, size_of_times}
-use Rattle.st_ticks.specs.Variables.{IsNumber, IsWholeNumber}
+use Rattle.st_ticks.specs.Variables.{IsNumber}
 
 abbrev pub IsWholeAt : ℤ → ℤ → Type 0
 IsWholeAt d t = (z : ℤ) × IsTimesTen d t z

@@ -1,5 +1,4 @@
 -- The values of the variables as the code hands them on, and the rules that it looks at before it reads the ends.
-use Rattle.std.specs.Prelude.{List, [], ◌∷◌}
 use Rattle.st_ticks.specs.Variables as variables
 use Rattle.st_ticks.specs.declared.numbers.Numbers.{Numbers}
 use Rattle.st_ticks.specs.declared.variable.ClockFault.{ClockFault}

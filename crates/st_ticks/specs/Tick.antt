@@ -3,7 +3,7 @@
 use Rattle.std.specs.Prelude.{◌≡◌, ℕ, suc, ◌+◌, ◌-◌, ◌/◌, ◌%◌, ◌<◌, ◌≤◌, List, [], ◌∷◌, ◌++◌, length, Some, slice_get}
 use Rattle.std.specs.List.{join_with_byte}
 use Rattle.st_text.specs.Bytes.{padded, decimal_digits}
-use Rattle.st_ticks.specs.Face.{Face, span, ticks_in, earlier}
+use Rattle.st_ticks.specs.Face.{Face, span, earlier}
 use Rattle.st_ticks.specs.declared.field.Field.{Field}
 use Rattle.st_ticks.specs.declared.field.Partition.{Partition}
 

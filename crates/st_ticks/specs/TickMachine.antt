@@ -1,5 +1,5 @@
 -- The partition and the spelling of a tick, computed.
-use Rattle.std.specs.Prelude.{ℕ, zero, suc, ◌-◌, List, [], ◌∷◌, slice_index_or, nat_lt, if◌then◌else◌}
+use Rattle.std.specs.Prelude.{ℕ, suc, ◌-◌, List, [], ◌∷◌, slice_index_or, nat_lt, if◌then◌else◌}
 use Rattle.st_ticks.specs.Face.{Face, ticks_in}
 use Rattle.st_ticks.specs.Tick.{count_at, spelled}
 use Rattle.st_ticks.specs.declared.field.Partition.{Partition}

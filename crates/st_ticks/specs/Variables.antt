@@ -1,6 +1,6 @@
 -- The six variables from which the face of a clock is made, and what is asked of them. Source: SCLK Required Reading, on the
 -- variables of a type 1 clock kernel. The limits and the order of the rules are this project's own.
-use Rattle.std.specs.Prelude.{◌≡◌, ℕ, ℤ, pos, ◌+◌, ◌-◌, ◌*◌, ◌^◌, ◌<◌, ◌≤◌, ◌==◌, if◌then◌else◌, List, [], ◌∷◌, ◌++◌, length, Result, Ok, Err, Some, slice_get}
+use Rattle.std.specs.Prelude.{◌≡◌, ℕ, ℤ, pos, ◌^◌, ◌≤◌, ◌==◌, if◌then◌else◌, List, [], ◌∷◌, ◌++◌, length, Result, Ok, Err}
 use Rattle.std.specs.List.{All, sum_by}
 use Rattle.st_decimal.specs.Scaling.{IsTimesTen}
 use Rattle.st_decimal.specs.declared.number.Dec.{Dec}
@@ -12,9 +12,9 @@ use Rattle.st_ticks.specs.declared.field.Field.{Field}
 use Rattle.st_ticks.specs.declared.field.Partition.{Partition}
 use Rattle.st_ticks.specs.declared.variable.ClockFault.{ClockFault}
 use Rattle.st_ticks.specs.declared.variable.ClockVar.{ClockVar}
-use Rattle.st_ticks.specs.declared.variable.ClockVar.TheVariants.{DataType, TimeSystem, NFields, Moduli, Offsets, Delim, Start, End, Coefficients}
+use Rattle.st_ticks.specs.declared.variable.ClockVar.TheVariants.{NFields, Moduli, Offsets, Delim, Start, End}
 use Rattle.st_ticks.specs.declared.variable.ClockWhy.{ClockWhy}
-use Rattle.st_ticks.specs.declared.variable.ClockWhy.TheVariants.{NotOne, NotWhole, NotUnits, Range, Count, Product, NotRising}
+use Rattle.st_ticks.specs.declared.variable.ClockWhy.TheVariants.{NotOne, NotWhole, Range, Count, Product}
 
 -- the values of the variables
 pub record Numbers : Type 0 where

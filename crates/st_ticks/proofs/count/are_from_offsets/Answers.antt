@@ -1,4 +1,4 @@
-use Rattle.std.proofs.Common.{◌<◌, length, sym, ◌∙◌, arith}
+use Rattle.std.proofs.Common.{sym, ◌∙◌, arith}
 use Rattle.st_ticks.proofs.CountLaws.{from_offsets-end}
 use Rattle.st_ticks.proofs.count.are_from_offsets.Goals as goal
 

@@ -1,9 +1,7 @@
-use Rattle.std.proofs.Common.{◌≡◌, ℕ, ◌+◌, ◌-◌, ◌*◌, ◌/◌, ◌<◌, ◌≤◌, List, [], ◌∷◌, length, drop, get_or, refl, sym, ap, ◌∙◌, arith}
-use Rattle.std.specs.List.{All}
-use Rattle.st_ticks.specs.Face.{IsField, span, span_of_rest}
-use Rattle.st_ticks.specs.Reading.{count_of}
+use Rattle.std.proofs.Common.{◌≡◌, ℕ, ◌+◌, ◌-◌, ◌*◌, ◌/◌, ◌<◌, ◌≤◌, List, [], ◌∷◌, length, drop, get_or, refl, ap, ◌∙◌, arith}
+use Rattle.st_ticks.specs.Face.{span, span_of_rest}
 use Rattle.st_ticks.specs.declared.field.Field.{Field}
-use Rattle.st_ticks.proofs.CountLaws.{turn, part_small, total_small, count_of-step, count_of-end, no_field}
+use Rattle.st_ticks.proofs.CountLaws.{turn, part_small, count_of-step, count_of-end, no_field}
 use Rattle.st_ticks.proofs.count.count_of.Goals as goal
 
 -- the product of all moduli

@@ -1,4 +1,4 @@
-use Rattle.std.proofs.Common.{◌≡◌, ℕ, ◌^◌, ◌++◌, ◌∷◌, [], List, arith}
+use Rattle.std.proofs.Common.{◌≡◌, ◌^◌, ◌++◌, ◌∷◌, [], arith}
 use Rattle.st_ticks.specs.declared.field.Field.{Field}
 use Rattle.st_ticks.proofs.MakingLaws.{from_at, low_at, moduli_more, offsets_more}
 use Rattle.st_ticks.proofs.make.fields_of.Goals as goal

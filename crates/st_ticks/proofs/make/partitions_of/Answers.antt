@@ -1,7 +1,6 @@
-use Rattle.std.proofs.Common.{◌≡◌, ℕ, ◌≤◌, ◌^◌, ◌++◌, ◌∷◌, [], List, refl, arith}
-use Rattle.st_ticks.specs.Variables.{IsNumber}
+use Rattle.std.proofs.Common.{◌≡◌, ◌++◌, ◌∷◌, [], refl, arith}
 use Rattle.st_ticks.specs.declared.field.Partition.{Partition}
-use Rattle.st_ticks.proofs.MakingLaws.{no_dec, lacks, ends_more}
+use Rattle.st_ticks.proofs.MakingLaws.{lacks, ends_more}
 use Rattle.st_ticks.proofs.make.partitions_of.Goals as goal
 
 pub returns-in_default-clause-bad : goal.returns-in_default-clause-bad

@@ -1,4 +1,4 @@
-use Rattle.std.proofs.Common.{◌≡◌, ◌+◌, ◌∙◌, sym, suc, true, false, length, take, drop, arith}
+use Rattle.std.proofs.Common.{◌≡◌, ◌∙◌, sym, suc, true, false, take, drop, arith}
 use Rattle.st_ticks.specs.Variables.{first_rules}
 use Rattle.st_ticks.proofs.RuleLaws.{split_at}
 use Rattle.st_ticks.proofs.numbers.first_broken.Goals as goal

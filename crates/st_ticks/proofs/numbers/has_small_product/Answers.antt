@@ -1,4 +1,4 @@
-use Rattle.std.proofs.Common.{◌≡◌, ℕ, ◌^◌, ◌≤◌, Bool, true, is_some, IsTrue, List, sym, ◌∙◌, subst}
+use Rattle.std.proofs.Common.{◌^◌, ◌≤◌, Bool, IsTrue, List, sym, ◌∙◌, subst}
 use Rattle.st_ticks.specs.Face.{span_of_rest}
 use Rattle.st_ticks.specs.Variables.{HaveModuli}
 use Rattle.st_ticks.specs.declared.field.Field.{Field}

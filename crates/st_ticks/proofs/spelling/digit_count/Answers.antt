@@ -1,4 +1,4 @@
-use Rattle.std.proofs.Common.{ℕ, ◌≤◌, arith}
+use Rattle.std.proofs.Common.{arith}
 use Rattle.st_ticks.proofs.SpellingLaws.{digits_begun, digits_more, digits_few}
 use Rattle.st_ticks.proofs.spelling.digit_count.Goals as goal
 

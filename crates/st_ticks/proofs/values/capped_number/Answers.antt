@@ -1,4 +1,4 @@
-use Rattle.std.proofs.Common.{◌∙◌, ap, ℕ, ◌+◌, ◌*◌, min, arith}
+use Rattle.std.proofs.Common.{◌∙◌, arith}
 use Rattle.st_ticks.proofs.CountLaws.{capped_more}
 use Rattle.st_ticks.proofs.values.capped_number.Goals as goal
 

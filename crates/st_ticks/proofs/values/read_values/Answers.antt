@@ -1,9 +1,8 @@
-use Rattle.std.proofs.Common.{◌≡◌, ℕ, ◌+◌, ◌<◌, ◌≤◌, Bool, true, false, ◌==◌, List, [], ◌∷◌, ◌++◌, length, Option, None, Some, option_copied, refl, sym, ap, ◌∙◌, subst, arith}
+use Rattle.std.proofs.Common.{◌≡◌, ℕ, ◌<◌, true, false, ◌==◌, List, [], ◌∷◌, ◌++◌, length, None, Some, sym, ap, ◌∙◌, subst, arith}
 use Rattle.std.proofs.lemmas.Bool.Decides.{nat_tests}
 use Rattle.st_text.specs.Bytes.{are_blanks}
-use Rattle.st_ticks.specs.TextMachine.{digits, past_digits, past_separator, runs, next_of, stop}
-use Rattle.st_ticks.specs.ValueList.{HoldsFields}
-use Rattle.st_ticks.proofs.RunLaws.{ahead, IsLast, IsMore, runs_stop, next_stop, next_unseparated, ahead_none, ahead_last, ahead_more, more_shorter}
+use Rattle.st_ticks.specs.TextMachine.{digits, past_digits, past_separator}
+use Rattle.st_ticks.proofs.RunLaws.{IsLast, IsMore, runs_stop, next_stop, next_unseparated, ahead_none, ahead_last, ahead_more, more_shorter}
 use Rattle.st_ticks.proofs.values.read_values.Goals as goal
 
 -- the digits that were cut off are some

@@ -1,5 +1,4 @@
-use Rattle.std.proofs.Common.{◌≡◌, ℕ, pos, ◌+◌, ◌≤◌, Bool, true, List, length, take, get_or, refl, sym, arith}
-use Rattle.std.specs.List.{All}
+use Rattle.std.proofs.Common.{pos, take, refl, sym, arith}
 use Rattle.std.proofs.lemmas.List.{take_all}
 use Rattle.std.proofs.lemmas.List.Elements.{All-more, All-same}
 use Rattle.st_decimal.specs.declared.number.Dec.{Dec}

@@ -1,8 +1,8 @@
-use Rattle.std.proofs.Common.{◌≡◌, ℕ, ◌^◌, ◌<◌, ◌≤◌, List, Result, Ok, Err, length, take, get_or, sum_by, refl, sym, ap, ◌∙◌, subst, arith}
+use Rattle.std.proofs.Common.{◌≡◌, ℕ, ◌^◌, ◌<◌, ◌≤◌, List, Result, Err, sum_by, sym, subst, arith}
 use Rattle.std.specs.List.{All}
 use Rattle.std.proofs.lemmas.Result.{err_from_is_err_and}
-use Rattle.st_ticks.specs.Face.{Face, IsFace, IsDelimiter, IsField, IsPartition, span_of_rest, ticks_in}
-use Rattle.st_ticks.specs.FaceParts.{seen, AreBegins, IsSound}
+use Rattle.st_ticks.specs.Face.{Face, IsDelimiter, IsField, IsPartition, span_of_rest, ticks_in}
+use Rattle.st_ticks.specs.FaceParts.{seen, AreBegins}
 use Rattle.st_ticks.specs.NumbersMachine.{numbers_of}
 use Rattle.st_ticks.specs.Variables.{IsNumber, MakesFace}
 use Rattle.st_ticks.specs.declared.fault.FaceFault.{FaceFault}

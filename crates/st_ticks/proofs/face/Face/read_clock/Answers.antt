@@ -1,6 +1,5 @@
-use Rattle.std.proofs.Common.{◌≡◌, ℕ, Result, sym, ◌∙◌, subst}
+use Rattle.std.proofs.Common.{ℕ, Result, sym, subst}
 use Rattle.st_ticks.specs.Reading.{ReadsClock}
-use Rattle.st_ticks.specs.ReadingMachine.{clock_of}
 use Rattle.st_ticks.specs.declared.fault.ClockTextFault.{ClockTextFault}
 use Rattle.st_ticks.proofs.JudgeLaws.{meets}
 use Rattle.st_ticks.proofs.ReadingLaws.{reading_is_one}

@@ -1,4 +1,4 @@
-use Rattle.std.proofs.Common.{◌≡◌, ℕ, ◌+◌, ◌++◌, ◌∷◌, [], List, suc, sym, ap, ◌∙◌, arith}
+use Rattle.std.proofs.Common.{◌≡◌, ℕ, ◌+◌, ◌++◌, ◌∷◌, [], List, ap, ◌∙◌, arith}
 use Rattle.st_text.specs.Bytes.{decimal_digits}
 use Rattle.st_ticks.specs.Face.{Face}
 use Rattle.st_ticks.specs.SpellingMachine.{fields_text}

@@ -1,4 +1,4 @@
-use Rattle.std.proofs.Common.{◌≡◌, ℕ, ◌<◌, ◌≤◌, ◌^◌, Bool, true, false, List, Result, sym, ap, ◌∙◌, subst, arith}
+use Rattle.std.proofs.Common.{◌≡◌, ℕ, Bool, true, false, List, sym, ap, ◌∙◌, arith}
 use Rattle.st_ticks.specs.Face.{Face}
 use Rattle.st_ticks.specs.Reading.{count_of}
 use Rattle.st_ticks.specs.ReadingMachine.{from_offsets, meant_place, ticked}

@@ -1,4 +1,4 @@
-use Rattle.std.proofs.Common.{◌≡◌, ℕ, List, Result, Ok, Err, IfOk, sym, ap, ◌∙◌, subst}
+use Rattle.std.proofs.Common.{◌≡◌, ℕ, List, Result, Ok, Err, IfOk, ap, ◌∙◌}
 use Rattle.st_ticks.specs.Face.{Face, IsFace}
 use Rattle.st_ticks.specs.Tick.{IsCanonical, spelled, count_at}
 use Rattle.st_ticks.specs.TickMachine.{canonical, place_of, partition_of}
