@@ -52,11 +52,13 @@ module _ (c : Clock) (records : List Coefficient) (p : ℕ) (v : Fraction) (r : 
 
   pub answer_at : IsSound c → records ≡ c.records → p ≡ tpm c → (t : ℕ) → t ≡ total c → t ≤ 10 ^ 18 → IsInForce (BeginsBy v) records r next
       → IsFloorOrFar (capped next (line_tick p r v) +ᶠ over (pos 1) 2) n → n ≤ t → TickOf c v (At n)
-  answer_at s e g t h few f floor l =
-      (number_at s e g f (pos n) (record {
-          at_most = floor.at_most;
-          below_next = elim floor.next [ inl k ↦ k | inr far ↦ absurd (omega arith) ];
-        }), rw h at l)
+  answer_at s e g t h few f floor l = (
+    number_at s e g f (pos n) (record {
+      at_most = floor.at_most;
+      below_next = elim floor.next [ inl k ↦ k | inr far ↦ absurd (omega arith) ];
+    }),
+    rw h at l,
+  )
 
   pub answer_after : IsSound c → records ≡ c.records → p ≡ tpm c → (t : ℕ) → t ≡ total c → 0 < v.den → IsInForce (BeginsBy v) records r next
       → IsFloorOrFar (capped next (line_tick p r v) +ᶠ over (pos 1) 2) n → t < n → TickOf c v After
@@ -102,9 +104,9 @@ same_point p q l m e h =
     let some : 0 < q.of = omega arith in
     let h2 : parted p.units p.part q.of ≈ᶠ parted q.units q.part q.of = rw e at h in
     let k = at_le (10 ^ 18 * q.of) (parted p.units p.part q.of) (parted q.units q.part q.of) _ _ (parted-den p.units p.part q.of some) (parted-den q.units q.part q.of some)
-        (parted_at p.units p.part q.of) (parted_at q.units q.part q.of) (le_of_same _ _ h2) in
+    (parted_at p.units p.part q.of) (parted_at q.units q.part q.of) (le_of_same _ _ h2) in
     let j = at_le (10 ^ 18 * q.of) (parted q.units q.part q.of) (parted p.units p.part q.of) _ _ (parted-den q.units q.part q.of some) (parted-den p.units p.part q.of some)
-        (parted_at q.units q.part q.of) (parted_at p.units p.part q.of) (le_of_same _ _ (same_sym _ _ h2)) in
+    (parted_at q.units q.part q.of) (parted_at p.units p.part q.of) (le_of_same _ _ (same_sym _ _ h2)) in
     let u = units_le p.units q.units p.part q.part q.of m k in
     let w = units_le q.units p.units q.part p.part q.of (rw e at l) j in
     let s : p.units ≡ q.units = omega (arith, lin, u, w) in
@@ -113,10 +115,10 @@ same_point p q l m e h =
   where
     units_le : (x y : ℤ) (a b d : ℕ) → b < d → (x *ℤ pos d +ℤ pos a) ≤ℤ (y *ℤ pos d +ℤ pos b) → x ≤ℤ y
     units_le x y a b d l h = by_lt_z y x (λ (s : y <ℤ x).
-          let m = le-mul_z (y +ℤ pos 1) x d (omega (arith, ints, s)) in
-          let e = add-mul_z y (pos 1) (pos d) in
-          let f = one-mul_z (pos d) in
-          absurd (never (x *ℤ pos d) (y *ℤ pos d) a b d l h (rw (e, f) at m)))
+        let m = le-mul_z (y +ℤ pos 1) x d (omega (arith, ints, s)) in
+        let e = add-mul_z y (pos 1) (pos d) in
+        let f = one-mul_z (pos d) in
+        absurd (never (x *ℤ pos d) (y *ℤ pos d) a b d l h (rw (e, f) at m)))
         (λ (s : x ≤ℤ y). s)
       where
         never : (x y : ℤ) (a b d : ℕ) → b < d → (x +ℤ pos a) ≤ℤ (y +ℤ pos b) → (y +ℤ pos d) ≤ℤ x → ⊥

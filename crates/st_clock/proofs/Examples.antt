@@ -121,82 +121,112 @@ skipped_time = record {
 
 -- half a tick counts up, and less than half does not
 half_up : TickOf usual (over (pos 1953125) (10 ^ 9)) (At 1)
-half_up = (record {
-  place = 0;
-  by = coefficient 0 (pos 0) second;
-  last = of_one (BeginsBy (over (pos 1953125) (10 ^ 9))) (coefficient 0 (pos 0) second) (record { le = le_z_yes tt });
-  rounded = record { at_most = record { le = le_z_yes tt }; below_next = record { lt = lt_z_yes tt } };
-}, lit≤ tt)
+half_up = (
+  record {
+    place = 0;
+    by = coefficient 0 (pos 0) second;
+    last = of_one (BeginsBy (over (pos 1953125) (10 ^ 9))) (coefficient 0 (pos 0) second) (record { le = le_z_yes tt });
+    rounded = record { at_most = record { le = le_z_yes tt }; below_next = record { lt = lt_z_yes tt } };
+  },
+  lit≤ tt,
+)
 
 less_than_half : TickOf usual (over (pos 1953124) (10 ^ 9)) (At 0)
-less_than_half = (record {
-  place = 0;
-  by = coefficient 0 (pos 0) second;
-  last = of_one (BeginsBy (over (pos 1953124) (10 ^ 9))) (coefficient 0 (pos 0) second) (record { le = le_z_yes tt });
-  rounded = record { at_most = record { le = le_z_yes tt }; below_next = record { lt = lt_z_yes tt } };
-}, lit≤ tt)
+less_than_half = (
+  record {
+    place = 0;
+    by = coefficient 0 (pos 0) second;
+    last = of_one (BeginsBy (over (pos 1953124) (10 ^ 9))) (coefficient 0 (pos 0) second) (record { le = le_z_yes tt });
+    rounded = record { at_most = record { le = le_z_yes tt }; below_next = record { lt = lt_z_yes tt } };
+  },
+  lit≤ tt,
+)
 
 -- where the first line has reached the second record's tick, it waits for its time
 before_the_cap : TickOf slowed (over (pos 199) 2) (At 25472)
-before_the_cap = (record {
-  place = 0;
-  by = coefficient 0 (pos 0) second;
-  last = first_of_two (BeginsBy (over (pos 199) 2)) (coefficient 0 (pos 0) second) (coefficient 25600 (pos (110 * second)) second) (record { le = le_z_yes tt })
-      (λ h. not_both_f (units (pos (110 * second))) (over (pos 199) 2) h (record { lt = lt_z_yes tt }));
-  rounded = record { at_most = record { le = le_z_yes tt }; below_next = record { lt = lt_z_yes tt } };
-}, lit≤ tt)
+before_the_cap = (
+  record {
+    place = 0;
+    by = coefficient 0 (pos 0) second;
+    last = first_of_two (BeginsBy (over (pos 199) 2)) (coefficient 0 (pos 0) second) (coefficient 25600 (pos (110 * second)) second) (record { le = le_z_yes tt })
+        (λ h. not_both_f (units (pos (110 * second))) (over (pos 199) 2) h (record { lt = lt_z_yes tt }));
+    rounded = record { at_most = record { le = le_z_yes tt }; below_next = record { lt = lt_z_yes tt } };
+  },
+  lit≤ tt,
+)
 
 at_the_cap : TickOf slowed (over (pos 105) 1) (At 25600)
-at_the_cap = (record {
-  place = 0;
-  by = coefficient 0 (pos 0) second;
-  last = first_of_two (BeginsBy (over (pos 105) 1)) (coefficient 0 (pos 0) second) (coefficient 25600 (pos (110 * second)) second) (record { le = le_z_yes tt })
-      (λ h. not_both_f (units (pos (110 * second))) (over (pos 105) 1) h (record { lt = lt_z_yes tt }));
-  rounded = record { at_most = record { le = le_z_yes tt }; below_next = record { lt = lt_z_yes tt } };
-}, lit≤ tt)
+at_the_cap = (
+  record {
+    place = 0;
+    by = coefficient 0 (pos 0) second;
+    last = first_of_two (BeginsBy (over (pos 105) 1)) (coefficient 0 (pos 0) second) (coefficient 25600 (pos (110 * second)) second) (record { le = le_z_yes tt })
+        (λ h. not_both_f (units (pos (110 * second))) (over (pos 105) 1) h (record { lt = lt_z_yes tt }));
+    rounded = record { at_most = record { le = le_z_yes tt }; below_next = record { lt = lt_z_yes tt } };
+  },
+  lit≤ tt,
+)
 
 behind_the_cap : TickOf slowed (over (pos 111) 1) (At 25856)
-behind_the_cap = (record {
-  place = 1;
-  by = coefficient 25600 (pos (110 * second)) second;
-  last = second_of_two (BeginsBy (over (pos 111) 1)) (coefficient 0 (pos 0) second) (coefficient 25600 (pos (110 * second)) second) (record { le = le_z_yes tt });
-  rounded = record { at_most = record { le = le_z_yes tt }; below_next = record { lt = lt_z_yes tt } };
-}, lit≤ tt)
+behind_the_cap = (
+  record {
+    place = 1;
+    by = coefficient 25600 (pos (110 * second)) second;
+    last = second_of_two (BeginsBy (over (pos 111) 1)) (coefficient 0 (pos 0) second) (coefficient 25600 (pos (110 * second)) second) (record { le = le_z_yes tt });
+    rounded = record { at_most = record { le = le_z_yes tt }; below_next = record { lt = lt_z_yes tt } };
+  },
+  lit≤ tt,
+)
 
 -- ticks are left out where the second record begins early
 before_the_gap : TickOf skipped (over (pos 179) 2) (At 22912)
-before_the_gap = (record {
-  place = 0;
-  by = coefficient 0 (pos 0) second;
-  last = first_of_two (BeginsBy (over (pos 179) 2)) (coefficient 0 (pos 0) second) (coefficient 25600 (pos (90 * second)) second) (record { le = le_z_yes tt })
-      (λ h. not_both_f (units (pos (90 * second))) (over (pos 179) 2) h (record { lt = lt_z_yes tt }));
-  rounded = record { at_most = record { le = le_z_yes tt }; below_next = record { lt = lt_z_yes tt } };
-}, lit≤ tt)
+before_the_gap = (
+  record {
+    place = 0;
+    by = coefficient 0 (pos 0) second;
+    last = first_of_two (BeginsBy (over (pos 179) 2)) (coefficient 0 (pos 0) second) (coefficient 25600 (pos (90 * second)) second) (record { le = le_z_yes tt })
+        (λ h. not_both_f (units (pos (90 * second))) (over (pos 179) 2) h (record { lt = lt_z_yes tt }));
+    rounded = record { at_most = record { le = le_z_yes tt }; below_next = record { lt = lt_z_yes tt } };
+  },
+  lit≤ tt,
+)
 
 behind_the_gap : TickOf skipped (over (pos 90) 1) (At 25600)
-behind_the_gap = (record {
-  place = 1;
-  by = coefficient 25600 (pos (90 * second)) second;
-  last = second_of_two (BeginsBy (over (pos 90) 1)) (coefficient 0 (pos 0) second) (coefficient 25600 (pos (90 * second)) second) (record { le = le_z_yes tt });
-  rounded = record { at_most = record { le = le_z_yes tt }; below_next = record { lt = lt_z_yes tt } };
-}, lit≤ tt)
+behind_the_gap = (
+  record {
+    place = 1;
+    by = coefficient 25600 (pos (90 * second)) second;
+    last = second_of_two (BeginsBy (over (pos 90) 1)) (coefficient 0 (pos 0) second) (coefficient 25600 (pos (90 * second)) second) (record { le = le_z_yes tt });
+    rounded = record { at_most = record { le = le_z_yes tt }; below_next = record { lt = lt_z_yes tt } };
+  },
+  lit≤ tt,
+)
 
 -- the last tick of all, what is behind it, and what is before the first record
 last_tick : TickOf short (over (pos 234375) 10000) (At 6000)
-last_tick = (record {
-  place = 0;
-  by = coefficient 0 (pos 0) second;
-  last = of_one (BeginsBy (over (pos 234375) 10000)) (coefficient 0 (pos 0) second) (record { le = le_z_yes tt });
-  rounded = record { at_most = record { le = le_z_yes tt }; below_next = record { lt = lt_z_yes tt } };
-}, lit≤ tt)
+last_tick = (
+  record {
+    place = 0;
+    by = coefficient 0 (pos 0) second;
+    last = of_one (BeginsBy (over (pos 234375) 10000)) (coefficient 0 (pos 0) second) (record { le = le_z_yes tt });
+    rounded = record { at_most = record { le = le_z_yes tt }; below_next = record { lt = lt_z_yes tt } };
+  },
+  lit≤ tt,
+)
 
 behind_all : TickOf short (over (pos 24) 1) After
-behind_all = (pos 6144, (record {
-  place = 0;
-  by = coefficient 0 (pos 0) second;
-  last = of_one (BeginsBy (over (pos 24) 1)) (coefficient 0 (pos 0) second) (record { le = le_z_yes tt });
-  rounded = record { at_most = record { le = le_z_yes tt }; below_next = record { lt = lt_z_yes tt } };
-}, lt_z_yes tt))
+behind_all = (
+  pos 6144,
+  (
+    record {
+      place = 0;
+      by = coefficient 0 (pos 0) second;
+      last = of_one (BeginsBy (over (pos 24) 1)) (coefficient 0 (pos 0) second) (record { le = le_z_yes tt });
+      rounded = record { at_most = record { le = le_z_yes tt }; below_next = record { lt = lt_z_yes tt } };
+    },
+    lt_z_yes tt,
+  ),
+)
 
 before_all : TickOf short (over (negsuc 0) 1) Before
 before_all zero r g = subst (λ (s : Coefficient). over (negsuc 0) 1 <ᶠ units s.time) (same (coefficient 0 (pos 0) second) r g) (record { lt = lt_z_yes tt })

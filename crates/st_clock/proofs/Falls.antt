@@ -96,11 +96,11 @@ at_two_places records tpm i j r s v w m n rising pr ps pv pw l here there begins
     let a = slice_get records (i + 1) in
     let b = slice_get records (j + 1) in
     let below : capped a x ≤ᶠ whole (pos t.ticks) =
-        subst (λ (o : Option Coefficient). capped o x ≤ᶠ whole (pos t.ticks)) (sym next.1) (least_second x (whole (pos t.ticks))) in
+    subst (λ (o : Option Coefficient). capped o x ≤ᶠ whole (pos t.ticks)) (sym next.1) (least_second x (whole (pos t.ticks))) in
     let between : t.ticks ≤ s.ticks = ticks_in_order records (i + 1) j t s rising (omega arith) next.1 there in
     let above : whole (pos t.ticks) ≤ᶠ capped b y =
-        capped_from b t.ticks y (λ u k. ordered t.ticks s.ticks u.ticks between (rising j (j + 1) s u (omega arith) there k).0)
-        (le_f_trans (whole (pos t.ticks)) (whole (pos s.ticks)) y (lit< tt) (wholes t.ticks s.ticks between) (line_tick_from tpm s w begins)) in
+    capped_from b t.ticks y (λ u k. ordered t.ticks s.ticks u.ticks between (rising j (j + 1) s u (omega arith) there k).0)
+    (le_f_trans (whole (pos t.ticks)) (whole (pos s.ticks)) y (lit< tt) (wholes t.ticks s.ticks between) (line_tick_from tpm s w begins)) in
     floor_rises (capped a x +ᶠ over (pos 1) 2) (capped b y +ᶠ over (pos 1) 2) m n (half_more-den (capped a x) (capped-den a x px))
     (half_more-den (capped b y) (capped-den b y py))
     (add_half (capped a x) (capped b y) (le_f_trans (capped a x) (whole (pos t.ticks)) (capped b y) (lit< tt) below above)) f g
@@ -117,15 +117,15 @@ number_rises c v w m n is pv pw h a b =
     let in_order = last_in_order (BeginsBy v) (BeginsBy w) c.records a.place b.place a.by b.by a.last b.last begins in
     by_place a.place b.place
     (λ l. at_two_places c.records (tpm c) a.place b.place a.by b.by v w m n is.rising (is.rates a.place a.by a.last.here)
-        (is.rates b.place b.by b.last.here) pv.positive pw.positive l a.last.here b.last.here b.last.holds a.rounded b.rounded)
+    (is.rates b.place b.by b.last.here) pv.positive pw.positive l a.last.here b.last.here b.last.holds a.rounded b.rounded)
     (λ e.
-        let there : slice_get c.records a.place ≡ Some b.by = subst (λ i. slice_get c.records i ≡ Some b.by) (sym e) b.last.here in
-        let same = same_record c.records a.place a.by b.by a.last.here there in
-        let g : IsFloor (capped (slice_get c.records (a.place + 1)) (line_tick (tpm c) b.by w) +ᶠ over (pos 1) 2) n =
-            subst (λ (i : ℕ). IsFloor (capped (slice_get c.records (i + 1)) (line_tick (tpm c) b.by w) +ᶠ over (pos 1) 2) n) (sym e) b.rounded in
-        let g2 : IsFloor (capped (slice_get c.records (a.place + 1)) (line_tick (tpm c) a.by w) +ᶠ over (pos 1) 2) n =
-            subst (λ (r : Coefficient). IsFloor (capped (slice_get c.records (a.place + 1)) (line_tick (tpm c) r w) +ᶠ over (pos 1) 2) n) (sym same) g in
-        at_one_place (tpm c) (slice_get c.records (a.place + 1)) a.by v w m n (is.rates a.place a.by a.last.here) pv.positive pw.positive h a.rounded g2)
+    let there : slice_get c.records a.place ≡ Some b.by = subst (λ i. slice_get c.records i ≡ Some b.by) (sym e) b.last.here in
+    let same = same_record c.records a.place a.by b.by a.last.here there in
+    let g : IsFloor (capped (slice_get c.records (a.place + 1)) (line_tick (tpm c) b.by w) +ᶠ over (pos 1) 2) n =
+    subst (λ (i : ℕ). IsFloor (capped (slice_get c.records (i + 1)) (line_tick (tpm c) b.by w) +ᶠ over (pos 1) 2) n) (sym e) b.rounded in
+    let g2 : IsFloor (capped (slice_get c.records (a.place + 1)) (line_tick (tpm c) a.by w) +ᶠ over (pos 1) 2) n =
+    subst (λ (r : Coefficient). IsFloor (capped (slice_get c.records (a.place + 1)) (line_tick (tpm c) r w) +ᶠ over (pos 1) 2) n) (sym same) g in
+    at_one_place (tpm c) (slice_get c.records (a.place + 1)) a.by v w m n (is.rates a.place a.by a.last.here) pv.positive pw.positive h a.rounded g2)
     (λ l. absurd (omega (arith, l, in_order)))
 
 -- a time that a record's is at most isn't before all
@@ -165,8 +165,8 @@ tick_is_one c v s t is pv a b =
 pub tick_is_found : (c : Clock) (v : Fraction) → IsClock c → IsFraction v → (t : Ticks) × TickOf c v t
 tick_is_found c v is pv =
     elim (last_found (BeginsBy v) decide c.records) [
-      inl l ↦ found l.0 l.1.0 l.1.1
-    | inr none ↦ (Before, λ i r g. le_f_cases (units r.time) v (λ h. absurd (none i r g h)) (λ h. h))
+      | inl l ↦ found l.0 l.1.0 l.1.1
+      | inr none ↦ (Before, λ i r g. le_f_cases (units r.time) v (λ h. absurd (none i r g h)) (λ h. h))
     ]
   where
     decide : (r : Coefficient) → BeginsBy v r ⊎ (BeginsBy v r → ⊥)
@@ -186,10 +186,10 @@ tick_is_found c v is pv =
         let pc = capped-den o x px in
         let f = floor_found (cap +ᶠ over (pos 1) 2) (half_more-den cap pc) in
         let zero_below : whole (pos 0) ≤ᶠ cap =
-            capped_from o 0 x (λ s e. zero_least s.ticks)
-            (le_f_trans (whole (pos 0)) (whole (pos r.ticks)) x (lit< tt) (zero_first r.ticks) (line_tick_from (tpm c) r v l.holds)) in
+        capped_from o 0 x (λ s e. zero_least s.ticks)
+        (le_f_trans (whole (pos 0)) (whole (pos r.ticks)) x (lit< tt) (zero_first r.ticks) (line_tick_from (tpm c) r v l.holds)) in
         let some = floor_below (cap +ᶠ over (pos 1) 2) (pos 0) f.0 (half_more-den cap pc)
-            (le_f_trans (whole (pos 0)) cap (cap +ᶠ over (pos 1) 2) pc zero_below (half_more cap)) f.1 in
+        (le_f_trans (whole (pos 0)) cap (cap +ᶠ over (pos 1) 2) pc zero_below (half_more cap)) f.1 in
         by_number f.0 some (record { place = i; by = r; last = l; rounded = f.1 })
       where
         zero_least : (n : ℕ) → 0 ≤ n

@@ -45,7 +45,7 @@ line_at tpm r k m x y h g =
 -- the line's tick and a half, at the scale m R 2
 pub tick_at : (tpm : ℕ) (r : Coefficient) (v : Fraction) (m : ℕ) (x w : ℤ) → IsAt m (units r.time) x → IsAt m v w
     → IsAt (m * r.rate * 2) (line_tick tpm r v +ᶠ over (pos 1) 2)
-      ((pos r.ticks *ℤ pos (m * r.rate) +ℤ (w +ℤ neg_ℤ x) *ℤ pos (tpm * 10 ^ 18)) *ℤ pos 2 +ℤ pos (m * r.rate))
+    ((pos r.ticks *ℤ pos (m * r.rate) +ℤ (w +ℤ neg_ℤ x) *ℤ pos (tpm * 10 ^ 18)) *ℤ pos 2 +ℤ pos (m * r.rate))
 tick_at tpm r v m x w h g =
     let q = over (pos (tpm * 10 ^ 18)) r.rate in
     let a = at_mul m r.rate (v -ᶠ units r.time) q (w +ℤ neg_ℤ x) (pos (tpm * 10 ^ 18)) (at_sub m v (units r.time) w x g h) (at_self q) in
@@ -75,11 +75,11 @@ line_low tpm r k v p q pv h =
     let z = at_one_scale (units r.time) (half_tick tpm r) v v v v v v unit (half_tick-den tpm r p) pv pv pv pv pv pv in
     let l = line_at tpm r k z.m z.xa z.xb z.a_at z.b_at in
     let n = at_le z.m (line_time tpm r k -ᶠ half_tick tpm r) v _ z.xc (mul-pos (line_time-den tpm r k p) (half_tick-den tpm r p)) pv
-        (at_sub z.m (line_time tpm r k) (half_tick tpm r) _ z.xb l z.b_at) z.c_at h in
+    (at_sub z.m (line_time tpm r k) (half_tick tpm r) _ z.xb l z.b_at) z.c_at h in
     le_at (z.m * r.rate * 2) (whole (pos k)) (line_tick tpm r v +ᶠ over (pos 1) 2) _ _ (mul-pos (mul-pos z.some q) two)
     (whole_at (pos k) (z.m * r.rate * 2)) (tick_at tpm r v z.m z.xa z.xc z.a_at z.c_at)
     (go (pos k) (pos r.ticks) z.xa z.xb z.xc (pos (tpm * 10 ^ 18)) (pos 2) (pos (z.m * r.rate)) (both_halves tpm r z.m z.xb z.b_at)
-      (le-mul_z _ _ 2 (le-mul_z _ _ (tpm * 10 ^ 18) n)))
+    (le-mul_z _ _ 2 (le-mul_z _ _ (tpm * 10 ^ 18) n)))
   where
     go : (k s x y w p b d : ℤ) → d ≡ b *ℤ (y *ℤ p) → ((x +ℤ b *ℤ ((k +ℤ neg_ℤ s) *ℤ y) +ℤ neg_ℤ y) *ℤ p *ℤ b) ≤ℤ (w *ℤ p *ℤ b)
         → (k *ℤ (d *ℤ b)) ≤ℤ ((s *ℤ d +ℤ (w +ℤ neg_ℤ x) *ℤ p) *ℤ b +ℤ d)
@@ -100,7 +100,7 @@ line_high tpm r k v p q pv h =
     (half_more-den (line_tick tpm r v) (line_tick-den tpm r v q pv)) one (tick_at tpm r v z.m z.xa z.xc z.a_at z.c_at)
     (whole_at (pos k +ℤ pos 1) (z.m * r.rate * 2))
     (go (pos k) (pos r.ticks) z.xa z.xb z.xc (pos (tpm * 10 ^ 18)) (pos 2) (pos d) (both_halves tpm r z.m z.xb z.b_at) twice
-      (lt-mul_z _ _ 2 two (lt-mul_z _ _ (tpm * 10 ^ 18) (mul-pos p unit) n)))
+    (lt-mul_z _ _ 2 two (lt-mul_z _ _ (tpm * 10 ^ 18) (mul-pos p unit) n)))
   where
     go : (k s x y w p b d : ℤ) → d ≡ b *ℤ (y *ℤ p) → d *ℤ b ≡ d +ℤ d → (w *ℤ p *ℤ b) <ℤ ((x +ℤ b *ℤ ((k +ℤ neg_ℤ s) *ℤ y) +ℤ y) *ℤ p *ℤ b)
         → ((s *ℤ d +ℤ (w +ℤ neg_ℤ x) *ℤ p) *ℤ b +ℤ d) <ℤ ((k +ℤ pos 1) *ℤ (d *ℤ b))
@@ -141,7 +141,7 @@ begins tpm r k v p q pv after h =
     let z = at_one_scale (units r.time) (half_tick tpm r) v v v v v v unit (half_tick-den tpm r p) pv pv pv pv pv pv in
     let l = line_at tpm r k z.m z.xa z.xb z.a_at z.b_at in
     let n = at_le z.m (line_time tpm r k -ᶠ half_tick tpm r) v _ z.xc (mul-pos (line_time-den tpm r k p) (half_tick-den tpm r p)) pv
-        (at_sub z.m (line_time tpm r k) (half_tick tpm r) _ z.xb l z.b_at) z.c_at h in
+    (at_sub z.m (line_time tpm r k) (half_tick tpm r) _ z.xb l z.b_at) z.c_at h in
     let some = half_above tpm r z.m z.xb p q z.some z.b_at in
     le_at z.m (units r.time) v z.xa z.xc z.some z.a_at z.c_at
     (go z.xa ((pos k -ℤ pos r.ticks) *ℤ z.xb) z.xb z.xc (one_or_more k r.ticks z.xb after some) some n)
@@ -180,8 +180,8 @@ not_later records tpm r k i j s v rising pv before h l there =
     let a = lt_le_f v (line_time tpm r (k + 1)) (units t.0.time) unit h (before t.0 t.1) in
     by_place (i + 1) j
     (λ m.
-        let u = times_in_order records (i + 1) j t.0 s rising m t.1 there in
-        lt_le_f v (units t.0.time) (units s.time) unit a (ordered t.0.time s.time u))
+    let u = times_in_order records (i + 1) j t.0 s rising m t.1 there in
+    lt_le_f v (units t.0.time) (units s.time) unit a (ordered t.0.time s.time u))
     (λ e. subst (λ (x : Coefficient). v <ᶠ units x.time) (same_record records j t.0 s (subst (λ n. slice_get records n ≡ Some t.0) e t.1) there) a)
     (λ m. absurd (omega arith))
   where
@@ -211,19 +211,21 @@ tick_within_half c k i r v is pv cov low high =
     let o = slice_get c.records (i + 1) in
     let next = below_next_tick (tpm c) r k v p q pv.positive high in
     let floor : IsFloor (x +ᶠ over (pos 1) 2) (pos k) =
-        record { at_most = line_low (tpm c) r k v p q pv.positive low; below_next = line_high (tpm c) r k v p q pv.positive high } in
-    (record {
-      place = i;
-      by = r;
-      last = record {
-        here = cov.last.here;
-        holds = begins (tpm c) r k v p q pv.positive cov.after_start low;
-        none_later = λ j s l g b.
-            not_both_f (units s.time) v b
-            (not_later c.records (tpm c) r k i j s v is.rising pv.positive (λ t e. (cov.before_next t e).1) next l g);
-      };
-      rounded = capped_floor o x k (line_tick-den (tpm c) r v q pv.positive) (λ s e. (cov.before_next s e).0) floor;
-    }, inside_total c k is cov.inside)
+    record { at_most = line_low (tpm c) r k v p q pv.positive low; below_next = line_high (tpm c) r k v p q pv.positive high } in (
+      record {
+        place = i;
+        by = r;
+        last = record {
+          here = cov.last.here;
+          holds = begins (tpm c) r k v p q pv.positive cov.after_start low;
+          none_later = λ j s l g b.
+              not_both_f (units s.time) v b
+              (not_later c.records (tpm c) r k i j s v is.rising pv.positive (λ t e. (cov.before_next t e).1) next l g);
+        };
+        rounded = capped_floor o x k (line_tick-den (tpm c) r v q pv.positive) (λ s e. (cov.before_next s e).0) floor;
+      },
+      inside_total c k is cov.inside,
+    )
 
 -- the time of a covered tick is that on its record's line
 pub covered_time : (c : Clock) (k i : ℕ) (r : Coefficient) (u : Fraction) → IsCovered c k i r → IsTimeOf c k u → u ≈ᶠ line_time (tpm c) r k

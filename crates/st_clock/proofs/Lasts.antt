@@ -10,8 +10,8 @@ use Rattle.st_clock.specs.Clock.{IsLast, AreRising}
 pub by_place : {P : Type 0} (i j : ℕ) → (i < j → P) → (i ≡ j → P) → (j < i → P) → P
 by_place i j before at after =
     elim (cases_lt i j) [
-      inl l ↦ before l
-    | inr n ↦ elim (cases_lt j i) [ inl l ↦ after l | inr m ↦ at (omega arith) ]
+      | inl l ↦ before l
+      | inr n ↦ elim (cases_lt j i) [ inl l ↦ after l | inr m ↦ at (omega arith) ]
     ]
 
 -- a place has one record
@@ -81,6 +81,6 @@ last_found P decide [] = inr (λ i r g p. absurd (none-some r g))
     none-some r e = cc
 last_found P decide (x ∷ xs) =
     elim (last_found P decide xs) [
-      inl l ↦ inl (suc l.0, (l.1.0, further P x xs l.0 l.1.0 l.1.1))
-    | inr none ↦ elim (decide x) [ inl p ↦ inl (0, (x, alone P x xs p none)) | inr never ↦ inr (neither P x xs never none) ]
+      | inl l ↦ inl (suc l.0, (l.1.0, further P x xs l.0 l.1.0 l.1.1))
+      | inr none ↦ elim (decide x) [ inl p ↦ inl (0, (x, alone P x xs p none)) | inr never ↦ inr (neither P x xs never none) ]
     ]

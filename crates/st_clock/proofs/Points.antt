@@ -26,16 +26,16 @@ pub times_parted : (records : List Coefficient) (time : ℤ) → AreRising recor
 times_parted records time rising i j d l m p =
     by_place i j
     (λ before.
-        let u = rising i j (get_or records i d) (get_or records j d) before (slice_get-get_or records i d (omega arith)) (slice_get-get_or records j d m) in
-        earlier_passes (get_or records i d).time (get_or records j d).time time u.1 p)
+    let u = rising i j (get_or records i d) (get_or records j d) before (slice_get-get_or records i d (omega arith)) (slice_get-get_or records j d m) in
+    earlier_passes (get_or records i d).time (get_or records j d).time time u.1 p)
     (λ same. same_element records i j d (λ r. int_le r.time time) same p) (λ after. absurd (omega arith))
 
 pub ticks_parted : (records : List Coefficient) (ticks : ℕ) → AreRising records → IsPartitionedBy (λ r. nat_le r.ticks ticks) records
 ticks_parted records ticks rising i j d l m p =
     by_place i j
     (λ before.
-        let u = rising i j (get_or records i d) (get_or records j d) before (slice_get-get_or records i d (omega arith)) (slice_get-get_or records j d m) in
-        lower_passes (get_or records i d).ticks (get_or records j d).ticks ticks u.0 p)
+    let u = rising i j (get_or records i d) (get_or records j d) before (slice_get-get_or records i d (omega arith)) (slice_get-get_or records j d m) in
+    lower_passes (get_or records i d).ticks (get_or records j d).ticks ticks u.0 p)
     (λ same. same_element records i j d (λ r. nat_le r.ticks ticks) same p) (λ after. absurd (omega arith))
 
 -- a record before the place that a search finds, and one from it on

@@ -45,10 +45,10 @@ low_from lo u a d l h =
   where
     go : (lo u : ℤ) (a d : ℕ) → a < d → (lo *ℤ pos d) ≤ℤ (u *ℤ pos d +ℤ pos a) → lo ≤ℤ u
     go lo u a d l k = by_lt_z u lo (λ (s : u <ℤ lo).
-          let m = le-mul_z (u +ℤ pos 1) lo d (omega (arith, ints, s)) in
-          let e = add-mul_z u (pos 1) (pos d) in
-          let f = one-mul_z (pos d) in
-          absurd (never (u *ℤ pos d) (lo *ℤ pos d) a d l k (rw (e, f) at m)))
+        let m = le-mul_z (u +ℤ pos 1) lo d (omega (arith, ints, s)) in
+        let e = add-mul_z u (pos 1) (pos d) in
+        let f = one-mul_z (pos d) in
+        absurd (never (u *ℤ pos d) (lo *ℤ pos d) a d l k (rw (e, f) at m)))
         (λ (s : lo ≤ℤ u). s)
       where
         never : (x y : ℤ) (a d : ℕ) → a < d → y ≤ℤ (x +ℤ pos a) → (x +ℤ pos d) ≤ℤ y → ⊥
@@ -93,7 +93,7 @@ pub line_time_at : (tpm : ℕ) (r : Coefficient) (k : ℕ) → IsAt (10 ^ 18 * t
 line_time_at tpm r k =
     at_add (10 ^ 18 * tpm) (units r.time) (units (pos r.rate) *ᶠ over (pos k -ℤ pos r.ticks) tpm) _ _ (units_at r.time tpm)
     (at_mul (10 ^ 18) tpm (units (pos r.rate)) (over (pos k -ℤ pos r.ticks) tpm) (pos r.rate) (pos k -ℤ pos r.ticks) (at_self (units (pos r.rate)))
-      (at_self (over (pos k -ℤ pos r.ticks) tpm)))
+    (at_self (over (pos k -ℤ pos r.ticks) tpm)))
 
 -- R (k - S) / tpm, with the whole counts of the first field taken out
 split_parts : (n d r : ℕ) → 0 < d → (n / d * r + n % d * r / d) * d + n % d * r % d ≡ r * n
@@ -156,9 +156,10 @@ far_behind tpm r k far u p q l h b =
 -- what the last comparison says of a count that is not before the range, and not its end
 pub decided : (lo hi u : ℤ) (a d : ℕ) → a < d → lo ≤ℤ u → (u ≡ hi → ⊥)
     → (u <ℤ hi → (units lo ≤ᶠ parted u a d) × (parted u a d ≤ᶠ units hi)) × ((parted u a d ≤ᶠ units hi) → u <ℤ hi)
-decided lo hi u a d l h never =
-    (λ less. (from_low lo u a d (omega arith) h, to_high u hi a d l less),
-      λ k. by_lt_z u hi (λ (s : u <ℤ hi). s) (λ (s : hi ≤ℤ u). absurd (never (high_from u hi a d l k s).0)))
+decided lo hi u a d l h never = (
+  λ less. (from_low lo u a d (omega arith) h, to_high u hi a d l less),
+  λ k. by_lt_z u hi (λ (s : u <ℤ hi). s) (λ (s : hi ≤ℤ u). absurd (never (high_from u hi a d l k s).0)),
+)
 
 pub less_of_test : (x y : ℤ) → int_lt x y ≡ true → x <ℤ y
 less_of_test x y e = omega (arith, ints)

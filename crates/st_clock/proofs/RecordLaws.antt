@@ -88,19 +88,22 @@ pub same_value : (a b : Dec) (values : List Dec) (i : ℕ) → slice_get values 
 same_value a b values i g h = cc
 
 pub range_kept : (values : List Dec) (records : List Coefficient) → AreRecords values records → KeepsCoefficients values Range
-range_kept values records are =
-    (λ i d g.
-        let r = record_there values records i 0 d are (omega arith) g in
+range_kept values records are = (
+  λ i d g.
+      let r = record_there values records i 0 d are (omega arith) g in
+      let at = are.each i r.0 r.1 in
+      (r.0.ticks, subst (λ (x : Dec). IsTick x r.0.ticks) (same_value at.tick d values (3 * i + 0) at.tick_here g) at.tick_is),
+  (
+    λ i d g.
+        let r = record_there values records i 1 d are (omega arith) g in
         let at = are.each i r.0 r.1 in
-        (r.0.ticks, subst (λ (x : Dec). IsTick x r.0.ticks) (same_value at.tick d values (3 * i + 0) at.tick_here g) at.tick_is),
-      (λ i d g.
-          let r = record_there values records i 1 d are (omega arith) g in
-          let at = are.each i r.0 r.1 in
-          (r.0.time, subst (λ (x : Dec). IsTime x r.0.time) (same_value at.time d values (3 * i + 1) at.time_here g) at.time_is),
-        λ i d g.
-            let r = record_there values records i 2 d are (omega arith) g in
-            let at = are.each i r.0 r.1 in
-            (r.0.rate, subst (λ (x : Dec). IsRate x r.0.rate) (same_value at.rate d values (3 * i + 2) at.rate_here g) at.rate_is)))
+        (r.0.time, subst (λ (x : Dec). IsTime x r.0.time) (same_value at.time d values (3 * i + 1) at.time_here g) at.time_is),
+    λ i d g.
+        let r = record_there values records i 2 d are (omega arith) g in
+        let at = are.each i r.0 r.1 in
+        (r.0.rate, subst (λ (x : Dec). IsRate x r.0.rate) (same_value at.rate d values (3 * i + 2) at.rate_here g) at.rate_is),
+  ),
+)
 
 pub tick_is_one : (d : Dec) (m n : ℕ) → IsTick d m → IsTick d n → m ≡ n
 tick_is_one d m n a b = let e = times_ten_is_one d.digits d.tens (pos m) (pos n) a.number b.number in omega (arith, ints, e)
@@ -138,9 +141,10 @@ values_rise values records are steps = record {
 pub records_rise : (values : List Dec) (records : List Coefficient) → AreRecords values records → DoRise values → HaveSteps records
 records_rise values records are rise i r s g h =
     let x = are.each i r g in
-    let y = are.each (i + 1) s h in
-    (rise.ticks i x.tick y.tick r.ticks s.ticks x.tick_here y.tick_here x.tick_is y.tick_is,
-      rise.times i x.time y.time r.time s.time x.time_here y.time_here x.time_is y.time_is)
+    let y = are.each (i + 1) s h in (
+      rise.ticks i x.tick y.tick r.ticks s.ticks x.tick_here y.tick_here x.tick_is y.tick_is,
+      rise.times i x.time y.time r.time s.time x.time_here y.time_here x.time_is y.time_is,
+    )
 
 pub broken_rising : (values : List Dec) (records : List Coefficient) → KeepsCoefficients values Count → EachThird 0 values HasNumber → KeepsCoefficients values NotUnits
     → AreRecords values records → (HaveSteps records → ⊥) → GivesRecords values (Err (Bad (fault Coefficients NotRising)))
@@ -169,9 +173,9 @@ pub one_more_step : (records : List Coefficient) (i : ℕ) (a b : Coefficient) �
 one_more_step records i a b l inv step k r s m g h =
     by_place k i (λ before. inv k r s before g h)
     (λ same.
-        let x : get_or records i a ≡ r = get_or_from_slice_get records i r a (subst (λ n. slice_get records n ≡ Some r) same g) in
-        let y : get_or records (i + 1) b ≡ s = get_or_from_slice_get records (i + 1) s b (subst (λ n. slice_get records (n + 1) ≡ Some s) same h) in
-        along (get_or records i a) r (get_or records (i + 1) b) s x y step)
+    let x : get_or records i a ≡ r = get_or_from_slice_get records i r a (subst (λ n. slice_get records n ≡ Some r) same g) in
+    let y : get_or records (i + 1) b ≡ s = get_or_from_slice_get records (i + 1) s b (subst (λ n. slice_get records (n + 1) ≡ Some s) same h) in
+    along (get_or records i a) r (get_or records (i + 1) b) s x y step)
     (λ after. absurd (omega arith))
   where
     along : (a r b s : Coefficient) → a ≡ r → b ≡ s → (a.ticks < b.ticks) × (a.time <ℤ b.time) → (r.ticks < s.ticks) × (r.time <ℤ s.time)

@@ -92,9 +92,10 @@ near_cell p v w n m x y s pv pw some v_at w_at e more less cell =
     let low = cancel_low n y (x +ℤ s) (10 ^ p) m q e (at_le m (whole n) (whole (pos (10 ^ p)) *ᶠ w) (n *ℤ pos m) _ one (mul-pos one pw) (whole_at n m) product cell.at_most) in
     let high = cancel_high n y (x +ℤ s) (10 ^ p) m e (at_lt m (whole (pos (10 ^ p)) *ᶠ w) (whole (n +ℤ pos 1)) _ ((n +ℤ pos 1) *ℤ pos m) some product (whole_at (n +ℤ pos 1) m) cell.below_next) in
     let X = printed_at p n m y e in
-    let h = place_at p m y e in
-    (le_at m (printed p n -ᶠ last_place p) v (n *ℤ y +ℤ neg_ℤ y) x some (at_sub m (printed p n) (last_place p) (n *ℤ y) y X h) v_at (below (n *ℤ y) x y s low less),
-      le_at m v (printed p n +ᶠ last_place p) x (n *ℤ y +ℤ y) some v_at (at_add m (printed p n) (last_place p) (n *ℤ y) y X h) (above (n *ℤ y) x y s high more))
+    let h = place_at p m y e in (
+      le_at m (printed p n -ᶠ last_place p) v (n *ℤ y +ℤ neg_ℤ y) x some (at_sub m (printed p n) (last_place p) (n *ℤ y) y X h) v_at (below (n *ℤ y) x y s low less),
+      le_at m v (printed p n +ᶠ last_place p) x (n *ℤ y +ℤ y) some v_at (at_add m (printed p n) (last_place p) (n *ℤ y) y X h) (above (n *ℤ y) x y s high more),
+    )
   where
     below : (u x y s : ℤ) → u ≤ℤ (x +ℤ s) → s ≤ℤ y → (u +ℤ neg_ℤ y) ≤ℤ x
     below u x y s h k = omega (arith, lin)
@@ -299,9 +300,10 @@ close_by u q a b pu pq pa pb h k l =
     let g = at_add z.m q pico z.xb z.xe z.b_at z.e_at in
     let ug = at_add z.m u (q +ᶠ pico) z.xa (z.xb +ℤ z.xe) z.a_at g in
     let ag = at_add z.m a (q +ᶠ pico) z.xc (z.xb +ℤ z.xe) z.c_at g in
-    let bg = at_add z.m b (q +ᶠ pico) z.xd (z.xb +ℤ z.xe) z.d_at g in
-    ((le_at z.m a (u +ᶠ (q +ᶠ pico)) _ _ z.some z.c_at ug (one z.xa z.xb z.xc z.xe i2 h2), le_at z.m u (a +ᶠ (q +ᶠ pico)) _ _ z.some z.a_at ag (two z.xa z.xb z.xc z.xd z.xe k2 l2)),
-      (le_at z.m b (u +ᶠ (q +ᶠ pico)) _ _ z.some z.d_at ug (three z.xa z.xb z.xc z.xd z.xe h2 l2), le_at z.m u (b +ᶠ (q +ᶠ pico)) _ _ z.some z.a_at bg (four z.xa z.xb z.xd z.xe i2 k2)))
+    let bg = at_add z.m b (q +ᶠ pico) z.xd (z.xb +ℤ z.xe) z.d_at g in (
+      (le_at z.m a (u +ᶠ (q +ᶠ pico)) _ _ z.some z.c_at ug (one z.xa z.xb z.xc z.xe i2 h2), le_at z.m u (a +ᶠ (q +ᶠ pico)) _ _ z.some z.a_at ag (two z.xa z.xb z.xc z.xd z.xe k2 l2)),
+      (le_at z.m b (u +ᶠ (q +ᶠ pico)) _ _ z.some z.d_at ug (three z.xa z.xb z.xc z.xd z.xe h2 l2), le_at z.m u (b +ᶠ (q +ᶠ pico)) _ _ z.some z.a_at bg (four z.xa z.xb z.xd z.xe i2 k2)),
+    )
   where
     none : (m : ℕ) → pos 0 *ℤ pos m ≡ pos 0
     none m = omega (arith, ints)
@@ -328,6 +330,7 @@ way_back_is_decided d c k p rounds n small pr a b pa pb least most close =
     let r = back d c k p rounds n pr a b pa pb least most in
     let tpm_is = tpm_some c pr.is_clock in
     let less = wider_pico_less p (tick_length (tpm c) pr.by) small (tick_length-den (tpm c) pr.by tpm_is) pr.long in
-    let z = close_by u q a b pr.time_is pq pa pb r.0 r.1 close in
-    (near_tick c k pr.place pr.by u a g pr.is_clock pr.time_is pa pg pr.covered pr.is_time z.0.0 z.0.1 less,
-      near_tick c k pr.place pr.by u b g pr.is_clock pr.time_is pb pg pr.covered pr.is_time z.1.0 z.1.1 less)
+    let z = close_by u q a b pr.time_is pq pa pb r.0 r.1 close in (
+      near_tick c k pr.place pr.by u a g pr.is_clock pr.time_is pa pg pr.covered pr.is_time z.0.0 z.0.1 less,
+      near_tick c k pr.place pr.by u b g pr.is_clock pr.time_is pb pg pr.covered pr.is_time z.1.0 z.1.1 less,
+    )

@@ -87,7 +87,7 @@ pub capped_floor_or_far : (s : Coefficient) (x : Fraction) (n : ℕ) → 0 < x.d
     → IsFloorOrFar (capped (Some s) x +ᶠ over (pos 1) 2) (min n s.ticks)
 capped_floor_or_far s x n px small f =
     elim (cases_lt s.ticks n) [
-      inl l ↦
+      | inl l ↦
           let e : min n s.ticks ≡ s.ticks = omega arith in
           rw e (record {
             at_most = least_cases x cap (λ y. cap ≤ᶠ (y +ᶠ over (pos 1) 2))
@@ -95,17 +95,17 @@ capped_floor_or_far s x n px small f =
             next = inl (le_lt_f (least x cap +ᶠ over (pos 1) 2) (cap +ᶠ over (pos 1) 2) (whole (pos (s.ticks + 1)))
                 (half_more-den (least x cap) (least-den x cap px (lit< tt))) (add_half (least x cap) cap (least_second x cap)) (below_next s.ticks));
           })
-    | inr l ↦
-        let e : min n s.ticks ≡ n = omega arith in
-        rw e (record {
-          at_most = least_cases x cap (λ y. whole (pos n) ≤ᶠ (y +ᶠ over (pos 1) 2)) (λ k. f.at_most)
-              (λ k. le_f_trans (whole (pos n)) cap (cap +ᶠ over (pos 1) 2) (lit< tt) (wholes n s.ticks (omega arith)) (half_more cap));
-          next = elim f.next [
-            inl k ↦ inl (le_lt_f (least x cap +ᶠ over (pos 1) 2) (x +ᶠ over (pos 1) 2) (whole (pos (n + 1)))
-                (half_more-den (least x cap) (least-den x cap px (lit< tt))) (add_half (least x cap) x (least_first x cap)) k)
-          | inr far ↦ inr far
-          ];
-        })
+      | inr l ↦
+          let e : min n s.ticks ≡ n = omega arith in
+          rw e (record {
+            at_most = least_cases x cap (λ y. whole (pos n) ≤ᶠ (y +ᶠ over (pos 1) 2)) (λ k. f.at_most)
+                (λ k. le_f_trans (whole (pos n)) cap (cap +ᶠ over (pos 1) 2) (lit< tt) (wholes n s.ticks (omega arith)) (half_more cap));
+            next = elim f.next [
+              | inl k ↦ inl (le_lt_f (least x cap +ᶠ over (pos 1) 2) (x +ᶠ over (pos 1) 2) (whole (pos (n + 1)))
+                  (half_more-den (least x cap) (least-den x cap px (lit< tt))) (add_half (least x cap) x (least_first x cap)) k)
+              | inr far ↦ inr far
+            ];
+          })
     ]
   where
     cap : Fraction

@@ -53,7 +53,7 @@ abbrev pub StepsRise : Type 0
 StepsRise =
     (records : List Coefficient)
     → ((i : ℕ) (r s : Coefficient) → slice_get records i ≡ Some r → slice_get records (i + 1) ≡ Some s
-      → (r.ticks < s.ticks) × (r.time <ℤ s.time))
+    → (r.ticks < s.ticks) × (r.time <ℤ s.time))
     → AreRising records
 
 -- what is made of good values is a clock

@@ -9,27 +9,23 @@ pub fn one_tick()
     ensures one { TickIsOne }
     ensures found { TickIsFound }
     ensures between { TickBetween }
-{
-}
+{}
 
 /// A time near that of a covered tick has that tick.
 pub fn near_tick()
     ensures half { TickWithinHalf }
     ensures quarter { TickWithinQuarter }
-{
-}
+{}
 
 /// Each tick has one time, and what is made of good values is a clock.
 pub fn records()
     ensures time { TimeIsOne }
     ensures steps { StepsRise }
     ensures clock { PartsGiveClock }
-{
-}
+{}
 
 /// A covered tick's time, printed in TDB, gives that tick back.
 pub fn way_back()
     ensures returns { TickReturns }
     ensures decided { WayBackIsDecided }
-{
-}
+{}

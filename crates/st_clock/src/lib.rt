@@ -14,6 +14,8 @@ mod places;
 mod point;
 mod records;
 mod system;
+#[cfg(test)]
+mod tests;
 mod ticks;
 
 pub use clock::Clock;

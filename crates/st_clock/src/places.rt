@@ -40,7 +40,11 @@ fn begun(records: &[Coefficient], time: i128) -> usize
     ensures before { (i : ℕ) (r : Record) → i < result → slice_get records.now i ≡ Some r → r.time ≤ℤ time }
     ensures after { (i : ℕ) (r : Record) → result ≤ i → slice_get records.now i ≡ Some r → time <ℤ r.time }
 {
-    records.partition_point(|r: &Coefficient| -> bool ensures { result ≡ int_le r.now.time time } { r.time <= time })
+    records.partition_point(
+        |r: &Coefficient| -> bool
+            ensures { result ≡ int_le r.now.time time }
+        { r.time <= time },
+    )
 }
 
 /// How many records start at a tick or before it.
@@ -50,7 +54,11 @@ fn started(records: &[Coefficient], ticks: u64) -> usize
     ensures before { (i : ℕ) (r : Record) → i < result → slice_get records.now i ≡ Some r → r.ticks ≤ ticks }
     ensures after { (i : ℕ) (r : Record) → result ≤ i → slice_get records.now i ≡ Some r → ticks < r.ticks }
 {
-    records.partition_point(|r: &Coefficient| -> bool ensures { result ≡ nat_le r.now.ticks ticks } { r.ticks <= ticks })
+    records.partition_point(
+        |r: &Coefficient| -> bool
+            ensures { result ≡ nat_le r.now.ticks ticks }
+        { r.ticks <= ticks },
+    )
 }
 
 /// The last of the first `count` records, of which there are so many, and the one behind it.

@@ -6,4 +6,3 @@ returns-clause-half c = tick_within_half
 
 pub returns-clause-quarter : goal.returns-clause-quarter
 returns-clause-quarter c = tick_within_quarter
-

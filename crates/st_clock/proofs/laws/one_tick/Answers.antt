@@ -12,4 +12,3 @@ returns-clause-found c = tick_is_found
 
 pub returns-clause-between : goal.returns-clause-between
 returns-clause-between c = tick_between
-

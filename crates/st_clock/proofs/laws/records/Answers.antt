@@ -10,4 +10,3 @@ returns-clause-steps c = steps_rise
 
 pub returns-clause-clock : goal.returns-clause-clock
 returns-clause-clock c = parts_give_clock
-

@@ -13,5 +13,5 @@ returns-in-Some c =
     let time : FitsSigned w128 c.args.time = omega (arith, ints, c.requires.time_small) in
     rw (c.in-Some.is, c.min.ensures, c.from.ensures, c.from-in-Some.ensures)
     (capped_floor_or_far c.in-Some.next (line_tick c.args.tpm c.args.r (units c.args.time)) (c.args.r.ticks + c.ticks_since.result)
-      (line_tick-den c.args.tpm c.args.r (units c.args.time) c.requires.rate unit) (c.requires.next_small c.in-Some.next c.in-Some.is).ticks
-      (rw (to_z-of_z w128 c.args.time time) at c.ticks_since.ensures.floor))
+    (line_tick-den c.args.tpm c.args.r (units c.args.time) c.requires.rate unit) (c.requires.next_small c.in-Some.next c.in-Some.is).ticks
+    (rw (to_z-of_z w128 c.args.time time) at c.ticks_since.ensures.floor))

@@ -6,11 +6,11 @@ use Rattle.st_clock.proofs.places.begun.Goals as goal
 pub returns-clause-before : goal.returns-clause-before
 returns-clause-before c =
     let point = IsPartitionPoint-from_clause (λ r. int_le r.time c.args.time) _ _ c.partition_point.ensures.partitioned (times_parted _ _ c.requires)
-        (λ a r q k. search rules) in
+    (λ a r q k. search rules) in
     λ i r l g. time_before c.args.records.now c.args.time c.partition_point.result i r point l g
 
 pub returns-clause-after : goal.returns-clause-after
 returns-clause-after c =
     let point = IsPartitionPoint-from_clause (λ r. int_le r.time c.args.time) _ _ c.partition_point.ensures.partitioned (times_parted _ _ c.requires)
-        (λ a r q k. search rules) in
+    (λ a r q k. search rules) in
     λ i r l g. time_after c.args.records.now c.args.time c.partition_point.result i r point l g

@@ -13,8 +13,8 @@ pub loop-i-preserved : goal.loop-i-preserved
 loop-i-preserved c =
     let grown = c.in_ok-append.ensures in
     let here : IsRecordAt c.args.values.now c.loop-i.i c.in-Some.r =
-        record_at_place c.args.values.now c.loop-i.i _ _ _ c.in-Some.r (third_within (length c.args.values.now) c.loop-i.i c.loop-i-test.true)
-        c.in-Some.ensures.tick c.in-Some.ensures.time c.in-Some.ensures.rate in
+    record_at_place c.args.values.now c.loop-i.i _ _ _ c.in-Some.r (third_within (length c.args.values.now) c.loop-i.i c.loop-i-test.true)
+    c.in-Some.ensures.tick c.in-Some.ensures.time c.in-Some.ensures.rate in
     record {
       count = rw (grown, length-append) (omega (arith, c.loop-i.invariant.count));
       each = rw grown (pushed (IsRecordAt c.args.values.now) c.loop-i.records.items c.in-Some.r c.loop-i.invariant.each (rw c.loop-i.invariant.count here));

@@ -46,5 +46,4 @@ returns-else-are_rising-clause-err c =
     let are = c.in_ok-records.ensures.ok in
     rw c.refusal-else-are_rising.ensures
     (broken_rising c.args.values.now c.in_ok-records.records.items (counted c.args.values.now c.if-is_empty.ensures c.if-values-ne0.false) (c.are_whole.ensures.0 c.if-not-are_whole.false) (c.have_units.ensures.0 c.if-not-have_units.false, c.have_units-2.ensures.0 c.if-not-have_units-2.false) are
-      (λ h. differ c.are_rising.result (c.are_rising.ensures.1 (rw c.as_slice.ensures.value h)) c.if-are_rising.false))
-
+    (λ h. differ c.are_rising.result (c.are_rising.ensures.1 (rw c.as_slice.ensures.value h)) c.if-are_rising.false))

@@ -28,4 +28,3 @@ invariant_of-result c =
 pub returns-clause-only : goal.returns-clause-only
 returns-clause-only c =
     λ answer h. clock_answer_is_one c.args.face c.args.data_type.now c.args.time_system.now c.args.coefficients.now (Ok (seen c.args.face c.in-Ok.scale c.in-Ok-read_records.records.items)) answer (clock_found c.args.face c.args.data_type.now c.args.time_system.now c.args.coefficients.now c.in-Ok.scale c.in-Ok-read_records.records.items c.in-Ok.ensures.gives c.in-Ok-read_records.ensures.ok) h
-

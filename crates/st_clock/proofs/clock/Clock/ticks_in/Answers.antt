@@ -39,4 +39,3 @@ returns-else-is_same-clause-only c =
     let a = rw (to_z-of_z w128 c.args.time.lo low) at c.ticks_of-lo.ensures in
     let b = rw (to_z-of_z w128 c.args.time.hi high) at c.ticks_of-hi.ensures in
     two_ticks_only c.args.self.now (units c.args.time.lo) (units c.args.time.hi) c.ticks_of-lo.result c.ticks_of-hi.result a.only b.only (λ e. differ c.is_same.result (c.is_same.ensures.1 e) c.if-is_same.false)
-

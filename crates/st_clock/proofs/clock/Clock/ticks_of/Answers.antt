@@ -112,4 +112,3 @@ returns-else-number-from-clause-only c =
     let time : IsFraction (units c.args.time) = record { positive = lit< tt } in
     let answer : TickOf c.args.self.now (units c.args.time) (At c.nearest-number.result) = answer_at c.args.self.now c.as_slice.result.now c.ticks_per_count.result (units c.args.time) c.in-Some.force.record c.in-Some.force.next c.nearest-number.result sound same tpm_is c.total.result total_is (rw total_is sound.clock.face.total_small) force floor (rw c.from.ensures at c.if-number-from.false) in
     λ other h. tick_is_one c.args.self.now (units c.args.time) (At c.nearest-number.result) other sound.clock time answer h
-

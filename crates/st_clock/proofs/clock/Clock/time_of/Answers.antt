@@ -114,4 +114,3 @@ returns-else-is_in_range-clause-only c =
     let read = to_z-of_z w128 c.in-Some-line_time.p.units fits in
     let answer : GivesTime c.args.self.now c.args.ticks (Err OutOfRange) = answer_outside c.args.self.now c.as_slice.result.now c.ticks_per_count.result c.args.ticks c.in-Some.force.record c.in-Some.force.next c.in-Some-line_time.p same tpm_is force found.some found.part (λ r. never_both c.is_in_range.result ((rw read at c.is_in_range.ensures.1) r) c.if-is_in_range.false) in
     λ other h. time_answer_is_one c.args.self.now c.args.ticks (Err OutOfRange) other sound.clock answer h
-

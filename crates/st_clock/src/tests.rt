@@ -1,0 +1,111 @@
+//! Worked clocks, as calls through `from_parts`, with answers that were computed apart from the program.
+
+use crate::{Clock, ClockRange, Point, Ticks};
+use st_decimal::Dec;
+use st_ticks::{ClockFault, ClockVar, ClockWhy, Face, FaceFault};
+use std::alloc::Global;
+use std::test::Fail;
+
+const NONE: Dec = Dec { digits: 0, tens: 0 };
+
+const ONE: Dec = Dec { digits: 1, tens: 0 };
+
+const TWO: Dec = Dec { digits: 2, tens: 0 };
+
+const COUNT: Dec = Dec {
+    digits: 25_600,
+    tens: 0,
+};
+
+/// The units in a millisecond.
+const MILLI: i128 = 1_000_000_000_000_000;
+
+/// A clock of fields of 4294967296 and 256 counts, with these partitions.
+fn clock(
+    alloc: Global,
+    system: Dec,
+    ends: &[Dec],
+    coefficients: &[Dec],
+) -> Result<Clock, FaceFault> {
+    let moduli = [
+        Dec {
+            digits: 4_294_967_296,
+            tens: 0,
+        },
+        Dec {
+            digits: 256,
+            tens: 0,
+        },
+    ];
+    let starts: &[Dec] = if ends.len() == 1 {
+        &[NONE]
+    } else {
+        &[NONE, NONE]
+    };
+    let face = Face::from_parts(alloc, &[TWO], &moduli, &[NONE, NONE], &[ONE], starts, ends)?;
+    Clock::from_parts(alloc, face, &[ONE], &[system], coefficients)
+}
+
+#[test]
+fn gives_times_and_ticks(rt: HostRuntime) -> Result<(), Fail> {
+    let end = [Dec {
+        digits: 1_099_511_627_775,
+        tens: 0,
+    }];
+    let Ok(usual) = clock(rt.alloc(), ONE, &end, &[NONE, NONE, ONE]) else {
+        assert!(rt; false);
+        return Ok(());
+    };
+    let at = Point {
+        units: 100_500 * MILLI,
+        part: 0,
+        of: 256,
+    };
+    assert_eq!(rt; usual.time_of(25_728), Ok(at));
+    assert_eq!(rt; usual.time_of(u64::MAX), Err(ClockRange::OutOfRange));
+    assert_eq!(rt; usual.ticks_of(1_953_125_000_000_000), Ticks::At(1));
+    assert_eq!(rt; usual.ticks_of(1_953_124_000_000_000), Ticks::At(0));
+    let late = Dec {
+        digits: 110,
+        tens: 0,
+    };
+    let Ok(capped) = clock(rt.alloc(), ONE, &end, &[NONE, NONE, ONE, COUNT, late, ONE]) else {
+        assert!(rt; false);
+        return Ok(());
+    };
+    assert_eq!(rt; capped.ticks_of(99_500 * MILLI), Ticks::At(25_472));
+    assert_eq!(rt; capped.ticks_of(105_000 * MILLI), Ticks::At(25_600));
+    assert_eq!(rt; capped.ticks_of(111_000 * MILLI), Ticks::At(25_856));
+    Ok(())
+}
+
+#[test]
+fn tells_what_is_before_and_behind(rt: HostRuntime) -> Result<(), Fail> {
+    let ends = [
+        Dec {
+            digits: 1_000,
+            tens: 0,
+        },
+        Dec {
+            digits: 5_000,
+            tens: 0,
+        },
+    ];
+    let Ok(short) = clock(rt.alloc(), ONE, &ends, &[NONE, NONE, ONE]) else {
+        assert!(rt; false);
+        return Ok(());
+    };
+    assert_eq!(rt;
+        short.ticks_of(23_437 * MILLI + MILLI / 2),
+        Ticks::At(6_000)
+    );
+    assert_eq!(rt; short.ticks_of(24_000 * MILLI), Ticks::After);
+    assert_eq!(rt; short.ticks_of(-1_000 * MILLI), Ticks::Before);
+    let twice = clock(rt.alloc(), TWO, &ends, &[NONE, NONE, ONE, NONE, ONE, ONE]);
+    let fault = ClockFault {
+        var: ClockVar::Coefficients,
+        why: ClockWhy::NotRising,
+    };
+    assert!(rt; matches!(twice, Err(FaceFault::Bad(found)) if found == fault));
+    Ok(())
+}
