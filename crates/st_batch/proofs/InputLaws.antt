@@ -18,7 +18,7 @@ use Rattle.st_batch.specs.declared.status.Status.{Status}
 use Rattle.st_batch.specs.declared.status.Status.TheVariants.{Done, SomeRefused, BadWords, BadSetup, ReadFault, WriteFault, OutOfMemory, InputTooLong}
 use Rattle.st_batch.specs.Causes.{AreCounted}
 use Rattle.st_batch.specs.LinesSteps.{Moment, setting_at, StopsAfter, Completes, Finishes, stopped_by, Cuts, EndsLines, ReadsText, StopsInText, ReadsInput}
-use Rattle.st_batch.specs.Outcome.{Outside, is_refused, Took, IsLongInput, IsReadWhole, AllAnswered, SomeAnswered, LinesOutcome}
+use Rattle.st_batch.specs.Outcome.{around, is_refused, Took, IsLongInput, IsReadWhole, AllAnswered, SomeAnswered, LinesOutcome}
 use Rattle.st_batch.specs.Session.{RunsTo}
 use Rattle.st_batch.specs.Setting.{Loaded, Setting, State}
 use Rattle.st_batch.specs.Texts.{line_of}
@@ -27,10 +27,6 @@ use Rattle.st_batch.specs.WordsMachine.{work_of}
 use Rattle.st_batch.proofs.CutLaws.{cuts-none, ends-cut}
 use Rattle.st_batch.proofs.LinesLaws.{advances-none, counted-none, counted-later, finishes-after}
 use Rattle.st_batch.proofs.ReadLaws.{reads-join, halts-none, halts-after}
-
--- what stands around the answering from a moment on
-abbrev pub around : FilesState → FilesState → InputState → InputState → Outside
-around before now i j = record { files = before; files_after = now; input = i; input_after = j }
 
 -- what a session's answering gives that ended so
 abbrev pub Gives : FilesState → FilesState → InputState → InputState → State → Status → List ℕ → Type 0

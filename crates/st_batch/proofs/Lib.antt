@@ -1,6 +1,5 @@
 pub mod CommandLaws
 pub mod CutLaws
-pub mod Decimals
 pub mod Examples
 pub mod FieldLaws
 pub mod GoesOn
@@ -11,14 +10,12 @@ pub mod LineLaws
 pub mod LinesLaws
 pub mod OneLoad
 pub mod OneOutput
-pub mod PairsLaws
 pub mod ReadLaws
 pub mod RunLaws
 pub mod SessionLaws
 pub mod SetupLaws
 pub mod TableLaws
 pub mod TimesLaws
-pub mod Told
 pub mod UtcFields
 pub mod UtcLaws
 pub mod VariableLaws

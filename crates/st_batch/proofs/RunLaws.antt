@@ -9,13 +9,13 @@ use Rattle.st_batch.specs.declared.job.Work.TheVariants.{Batch}
 use Rattle.st_batch.specs.declared.status.Status.{Status}
 use Rattle.st_batch.specs.declared.status.Status.TheVariants.{Done, SomeRefused, BadWords, BadSetup, ReadFault, WriteFault, OutOfMemory, InputTooLong}
 use Rattle.st_batch.specs.Causes.{IsCaused}
-use Rattle.st_batch.specs.Outcome.{Outside, LinesOutcome, IsAnswered, IsCutOff, Outcome, ReadsNothing, Took, over}
+use Rattle.st_batch.specs.Outcome.{Outside, LinesOutcome, IsAnswered, IsCutOff, Outcome, ReadsNothing, Took, around, over}
 use Rattle.st_batch.specs.OutputSteps.{Delivers, IsCut}
 use Rattle.st_batch.specs.Setting.{Loaded, State, setting}
 use Rattle.st_batch.specs.Setup.{SetupGives}
 use Rattle.st_batch.specs.Texts.{setup_line, words_line}
 use Rattle.st_batch.specs.Words.{AskFor, WordsGive}
-use Rattle.st_batch.proofs.InputLaws.{Gives, around}
+use Rattle.st_batch.proofs.InputLaws.{Gives}
 
 -- a job was opened, and its lines answered as far as the run came
 lines-ended : (o : Outside) (words : List (List ℕ)) (job : Job) (loaded : Loaded) (status : Status) (bytes : List ℕ)

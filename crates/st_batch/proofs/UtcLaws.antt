@@ -74,3 +74,7 @@ reads text label e =
 pub answered : (text : List ℕ) (o : Option Label) → o ≡ utc_of_text text → MatchOption o ((label : Label) → IsUtcTime text label → ⊥) (λ label. IsUtcTime text label)
 answered text None e = λ label h. let s = only text label h in absurd cc
 answered text (Some label) e = reads text label (sym e)
+
+-- a text is one time at most
+pub one-label : (text : List ℕ) (a b : Label) → IsUtcTime text a → IsUtcTime text b → a ≡ b
+one-label text a b h k = same_Some a b (sym (only text a h) ∙ only text b k)

@@ -6,7 +6,7 @@ use Rattle.std.specs.List.{slice_get}
 use Rattle.st_decimal.specs.declared.number.Dec.{Dec}
 use Rattle.st_kernel_text.specs.declared.value.Value.{Value}
 use Rattle.st_kernel_text.specs.declared.value.Value.TheVariants.{Number, Text}
-use Rattle.st_batch.specs.NumbersMachine.{numbers_in, are_numbers}
+use Rattle.st_batch.specs.TablesMachine.{numbers_in, are_numbers}
 
 numbers_in-append : (a b : List Value) → numbers_in (a ++ b) ≡ numbers_in a ++ numbers_in b
 numbers_in-append [] b = refl

@@ -23,6 +23,9 @@ pub record Moment : Type 0 where
   pub taken : Option (List ℕ)
   pub answering : Answering
 
+abbrev pub moment : FilesState → Option (List ℕ) → Answering → Moment
+moment files taken answering = record { files = files; taken = taken; answering = answering }
+
 -- what stays the same for the lines that are answered from a moment on
 abbrev pub setting_at : Moment → Setting
 setting_at m = setting m.files.map m.answering.session

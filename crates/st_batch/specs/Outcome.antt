@@ -39,6 +39,10 @@ pub record Outside : Type 0 where
   pub input : InputState
   pub input_after : InputState
 
+abbrev pub around : FilesState → FilesState → InputState → InputState → Outside
+around files files_after input input_after =
+    record { files = files; files_after = files_after; input = input; input_after = input_after }
+
 -- what stays the same for the lines of a job
 abbrev pub over : Outside → Job → Setting
 over o job = record { files = o.files.map; job = job }

@@ -1,16 +1,18 @@
 //! Converting a time from UTC to TAI.
 
-ghost use Rattle.std.specs.Prelude.{IfOk};
+ghost use Rattle.std.specs.Prelude.{IfOk, MatchOption};
 ghost use Rattle.st_batch.specs.Seconds.{IsTruncated, SpellsSeconds};
 ghost use Rattle.st_batch.specs.Times.{TimeGives};
+ghost use Rattle.st_batch.specs.TimesSteps.{HasNoTai, IsTaiOf};
 ghost use Rattle.st_batch.specs.declared.job.Job.{Job};
+ghost use Rattle.st_leaps.specs.OfTable.{pairs_of};
 
 use crate::answer::Answer;
 use crate::fault::LineFault;
-use crate::leap_seconds::tai_of;
 use crate::leap_table::{TableFault, read_table};
 use crate::utc_time::read_utc;
 use st_decimal::{Line, OutOfMemory, put_fixed};
+use st_leaps::{LeapTable, NoSuchSecond};
 use st_pool::Pool;
 use std::alloc::{AllocError, Global};
 
@@ -27,9 +29,22 @@ pub fn answer_time(alloc: Global, pool: &Pool, text: &[u8]) -> Result<Answer, Ou
         Err(TableFault::NotTable) => return Ok(Answer::Refused(LineFault::NotBuilt)),
         Err(TableFault::OutOfMemory) => return Err(AllocError),
     };
-    match read_utc(text) {
-        Some(label) => Ok(Answer::Text(seconds_text(alloc, tai_of(table.as_slice(), label))?)),
+    match tai_of(&table, text) {
+        Some(tai) => Ok(Answer::Text(seconds_text(alloc, tai)?)),
         None => Ok(Answer::Refused(LineFault::BadTime)),
+    }
+}
+
+/// TAI of the UTC time that a text is, or nothing where it is none, or its day hasn't its second.
+fn tai_of(table: &LeapTable, text: &[u8]) -> Option<i128>
+    ensures { MatchOption result (HasNoTai (pairs_of table.now) text.now) (IsTaiOf (pairs_of table.now) text.now) }
+{
+    match read_utc(text) {
+        Some(label) => match table.tai_of(label) {
+            Ok(tai) => Some(tai),
+            Err(NoSuchSecond) => None,
+        },
+        None => None,
     }
 }
 

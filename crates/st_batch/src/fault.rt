@@ -5,13 +5,16 @@ ghost use Rattle.std.specs.Prelude.{◌≡◌};
 use st_decimal::OutOfMemory;
 use st_kernel_text::{TextCause, TextFault};
 use st_pool::LoadFault;
+use thiserror::Error;
 
 /// Why the words of the program are refused.
-#[derive(Clone, Copy, Debug, PartialEq, Eq)]
+#[derive(Clone, Copy, Debug, PartialEq, Eq, Error)]
 pub enum WordFault {
     /// The words have another shape than the one that is built.
+    #[error("the words have another shape")]
     NotBuilt,
     /// Memory was refused. A run then ends with [`Status::OutOfMemory`](crate::Status::OutOfMemory).
+    #[error("out of memory")]
     OutOfMemory,
 }
 
@@ -26,51 +29,70 @@ impl From<OutOfMemory> for WordFault {
 }
 
 /// Why a setup or a line is refused.
-#[derive(Clone, Copy, Debug, PartialEq, Eq)]
+#[derive(Clone, Copy, Debug, PartialEq, Eq, Error)]
 pub enum LineFault {
     /// The line begins with `$` and is no command.
+    #[error("no command")]
     BadCommand,
     /// The line has more than 1,000 bytes.
+    #[error("a line of more than 1,000 bytes")]
     LineTooLong,
     /// There is no file of that name.
+    #[error("no such file")]
     NoFile,
     /// The file could not be opened, or its read failed.
+    #[error("the file could not be read")]
     FileFault,
     /// The file has more than 16,777,216 bytes.
+    #[error("a file of more than 16,777,216 bytes")]
     FileTooLong,
     /// The file is no text kernel: the line, from 1, and what breaks there.
+    #[error("no text kernel, by its line {line}")]
     KernelText { line: u64, cause: TextCause },
     /// 1,000 kernels are loaded.
+    #[error("1,000 kernels are loaded")]
     TooManyKernels,
     /// The values of the loaded kernels and of this one are more than 2,000,000.
+    #[error("more than 2,000,000 values")]
     TooManyValues,
     /// No kernel of that name is loaded.
+    #[error("no kernel of that name is loaded")]
     NotLoaded,
     /// The loaded kernels give no table of leap seconds.
+    #[error("no table of leap seconds")]
     NotBuilt,
     /// The line is no UTC time from 1900-01-01 to 2100-01-01.
+    #[error("no UTC time from 1900-01-01 to 2100-01-01")]
     BadTime,
     /// Memory was refused. No line is refused so: a run then ends with
     /// [`Status::OutOfMemory`](crate::Status::OutOfMemory).
+    #[error("out of memory")]
     OutOfMemory,
 }
 
 /// Why the file of a name isn't loaded.
-#[derive(Clone, Copy, Debug, PartialEq, Eq)]
+#[derive(Clone, Copy, Debug, PartialEq, Eq, Error)]
 pub enum KernelFault {
     /// There is no file of that name.
+    #[error("no such file")]
     NoFile,
     /// The file could not be opened, or its read failed.
+    #[error("the file could not be read")]
     FileFault,
     /// The file has more than 16,777,216 bytes.
+    #[error("a file of more than 16,777,216 bytes")]
     FileTooLong,
     /// The file is no text kernel: the line, from 1, and what breaks there.
+    #[error("no text kernel, by its line {line}")]
     KernelText { line: u64, cause: TextCause },
     /// 1,000 kernels are loaded.
+    #[error("1,000 kernels are loaded")]
     TooManyKernels,
     /// The values of the loaded kernels and of this one are more than 2,000,000.
+    #[error("more than 2,000,000 values")]
     TooManyValues,
     /// Memory was refused.
+    #[error("out of memory")]
     OutOfMemory,
 }
 

@@ -4,8 +4,8 @@ ghost use Rattle.std.specs.Prelude.{◌≡◌, ◌+◌, ◌≢◌, ◌≤◌, fa
 ghost use Rattle.st_outside.specs.Causes.{Rose, RoseBeyond};
 ghost use Rattle.st_outside.specs.States.{FilesState, KeepsFiles};
 ghost use Rattle.st_text.specs.Lines as lines;
-ghost use Rattle.st_batch.specs.LinesSteps.{AnswersLine, CutsAtFeed, Finishes, FinishesWriting, StopsInText, ReadsText};
-ghost use Rattle.st_batch.specs.Outcome.{HasNoFeed, IsAnswered, LinesOutcome, Took};
+ghost use Rattle.st_batch.specs.LinesSteps.{AnswersLine, CutsAtFeed, Finishes, FinishesWriting, ReadsText, StopsInText, moment};
+ghost use Rattle.st_batch.specs.Outcome.{HasNoFeed, IsAnswered, LinesOutcome, Took, around};
 ghost use Rattle.st_batch.specs.WordsMachine.{work_of};
 
 use crate::answering::Answering;
@@ -33,12 +33,7 @@ pub fn answer_lines<F: Files, I: Source, O: Sink>(
 ) -> Status
     ensures told { (before : FilesState) → KeepsFiles before (F.state files.old)
         → Took (O.bytes out.old) (O.bytes out.new) (LinesOutcome
-        (record {
-          files = before;
-          files_after = F.state files.new;
-          input = I.state input.old;
-          input_after = I.state input.new;
-        }) session.job session.loaded result) }
+        (around before (F.state files.new) (I.state input.old) (I.state input.new)) session.job session.loaded result) }
     ensures write_fault { result ≡ Status.WriteFault → Rose (O.faults out.old) (O.faults out.new) }
     ensures read_fault { result ≡ Status.ReadFault → Rose (I.state input.old).faults (I.state input.new).faults }
     ensures too_long { result ≡ Status.InputTooLong → RoseBeyond 67108864 (I.state input.old).taken (I.state input.new).taken }
@@ -79,12 +74,7 @@ fn answer_input<F: Files, I: Source, O: Sink>(
     requires batch { answering.old.session.job.work ≡ Work.Batch }
     ensures told { (before : FilesState) → KeepsFiles before (F.state files.old)
         → Took (O.bytes out.old) (O.bytes out.new) (LinesOutcome
-        (record {
-          files = before;
-          files_after = F.state files.new;
-          input = I.state input.old;
-          input_after = I.state input.new;
-        }) answering.old.session.job answering.old.session.loaded result) }
+        (around before (F.state files.new) (I.state input.old) (I.state input.new)) answering.old.session.job answering.old.session.loaded result) }
     ensures write_fault { result ≡ Status.WriteFault → Rose (O.faults out.old) (O.faults out.new) }
     ensures read_fault { result ≡ Status.ReadFault → Rose (I.state input.old).faults (I.state input.new).faults }
     ensures too_long { result ≡ Status.InputTooLong → RoseBeyond 67108864 (I.state input.old).taken (I.state input.new).taken }
@@ -120,8 +110,7 @@ fn answer_last<F: Files, O: Sink>(
     out: &mut O,
 ) -> Status
     requires { HasNoFeed begun.now }
-    ensures finished { Finishes
-        (record { files = F.state files.old; taken = O.bytes out.old; answering = answering.old })
+    ensures finished { Finishes (moment (F.state files.old) (O.bytes out.old) answering.old)
         (F.state files.new) (O.bytes out.new) (lines.lines_of begun.now) result }
     ensures write_fault { result ≡ Status.WriteFault → Rose (O.faults out.old) (O.faults out.new) }
     ensures files { KeepsFiles (F.state files.old) (F.state files.new) }
@@ -140,8 +129,7 @@ fn answer_one<F: Files, O: Sink>(
     files: &mut F,
     out: &mut O,
 ) -> Status
-    ensures finished { Finishes
-        (record { files = F.state files.old; taken = O.bytes out.old; answering = answering.old })
+    ensures finished { Finishes (moment (F.state files.old) (O.bytes out.old) answering.old)
         (F.state files.new) (O.bytes out.new) (line.now ∷ []) result }
     ensures write_fault { result ≡ Status.WriteFault → Rose (O.faults out.old) (O.faults out.new) }
     ensures files { KeepsFiles (F.state files.old) (F.state files.new) }
@@ -173,13 +161,11 @@ fn answer_piece<F: Files, O: Sink>(
     out: &mut O,
 ) -> Result<(), SinkFault>
     requires { HasNoFeed begun.old.items }
-    ensures ok { OnOk result (ReadsText
-        (record { files = F.state files.old; taken = O.bytes out.old; answering = answering.old })
-        (record { files = F.state files.new; taken = O.bytes out.new; answering = answering.new })
+    ensures ok { OnOk result (ReadsText (moment (F.state files.old) (O.bytes out.old) answering.old)
+        (moment (F.state files.new) (O.bytes out.new) answering.new)
         begun.old.items piece.now begun.new.items) }
     ensures gathered { OnOk result (answering.new.gathered.items ≡ []) }
-    ensures err { OnErr result (StopsInText
-        (record { files = F.state files.old; taken = O.bytes out.old; answering = answering.old })
+    ensures err { OnErr result (StopsInText (moment (F.state files.old) (O.bytes out.old) answering.old)
         (F.state files.new) (O.bytes out.new) begun.old.items piece.now) }
     ensures output { O.faults out.old ≤ O.faults out.new }
     ensures cause { IsErrOf result SinkFault.Failed → Rose (O.faults out.old) (O.faults out.new) }
@@ -215,12 +201,10 @@ fn answer_ended<F: Files, O: Sink>(
 ) -> Result<(), SinkFault>
     requires begun { HasNoFeed begun.old.items }
     requires end { HasNoFeed end.now }
-    ensures ok { OnOk result (ReadsText
-        (record { files = F.state files.old; taken = O.bytes out.old; answering = answering.old })
-        (record { files = F.state files.new; taken = O.bytes out.new; answering = answering.new })
+    ensures ok { OnOk result (ReadsText (moment (F.state files.old) (O.bytes out.old) answering.old)
+        (moment (F.state files.new) (O.bytes out.new) answering.new)
         begun.old.items (end.now ++ (10 ∷ [])) begun.new.items) }
-    ensures err { OnErr result (StopsInText
-        (record { files = F.state files.old; taken = O.bytes out.old; answering = answering.old })
+    ensures err { OnErr result (StopsInText (moment (F.state files.old) (O.bytes out.old) answering.old)
         (F.state files.new) (O.bytes out.new) begun.old.items (end.now ++ (10 ∷ []))) }
     ensures output { O.faults out.old ≤ O.faults out.new }
     ensures cause { IsErrOf result SinkFault.Failed → Rose (O.faults out.old) (O.faults out.new) }

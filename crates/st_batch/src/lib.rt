@@ -13,7 +13,6 @@ mod fault;
 mod input;
 mod job;
 pub mod laws;
-mod leap_seconds;
 mod leap_table;
 mod load;
 mod session;

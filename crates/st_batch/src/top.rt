@@ -3,7 +3,7 @@
 ghost use Rattle.std.specs.Prelude.{◌≡◌, ◌≤◌, ◌+◌, ◌≢◌, ℕ, List, Ok, Err, false, map, string_bytes};
 ghost use Rattle.st_outside.specs.Causes.{Rose, RoseBeyond};
 ghost use Rattle.st_outside.specs.States.{KeepsFiles};
-ghost use Rattle.st_batch.specs.Outcome.{IsAnswered, Outcome, ReadsNothing, Took};
+ghost use Rattle.st_batch.specs.Outcome.{IsAnswered, Outcome, ReadsNothing, Took, around};
 ghost use Rattle.st_batch.specs.OutputSteps.{Delivers, IsCut};
 ghost use Rattle.st_batch.specs.Texts as texts;
 ghost use Rattle.st_batch.specs.Words.{WordsGive};
@@ -34,12 +34,7 @@ pub fn run<F: Files, I: Source, O: Sink>(
     out: &mut O,
 ) -> Status
     ensures told { Took (O.bytes out.old) (O.bytes out.new) (Outcome
-        (record {
-          files = F.state files.old;
-          files_after = F.state files.new;
-          input = I.state input.old;
-          input_after = I.state input.new;
-        }) (map string_bytes words.now) result) }
+        (around (F.state files.old) (F.state files.new) (I.state input.old) (I.state input.new)) (map string_bytes words.now) result) }
 
     // An end by a fault has its cause, whether bytes are told or not.
     ensures write_fault { result ≡ Status.WriteFault → Rose (O.faults out.old) (O.faults out.new) }
@@ -68,12 +63,7 @@ fn run_job<F: Files, I: Source, O: Sink>(
     out: &mut O,
 ) -> Status
     ensures told { (words : List (List ℕ)) → WordsGive words (Ok job) → Took (O.bytes out.old) (O.bytes out.new) (Outcome
-        (record {
-          files = F.state files.old;
-          files_after = F.state files.new;
-          input = I.state input.old;
-          input_after = I.state input.new;
-        }) words result) }
+        (around (F.state files.old) (F.state files.new) (I.state input.old) (I.state input.new)) words result) }
     ensures write_fault { result ≡ Status.WriteFault → Rose (O.faults out.old) (O.faults out.new) }
     ensures read_fault { result ≡ Status.ReadFault → Rose (I.state input.old).faults (I.state input.new).faults }
     ensures too_long { result ≡ Status.InputTooLong → RoseBeyond 67108864 (I.state input.old).taken (I.state input.new).taken }

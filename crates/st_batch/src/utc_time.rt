@@ -5,7 +5,7 @@ ghost use Rattle.st_batch.specs.UtcTimeMachine as machine;
 ghost use Rattle.st_batch.specs.UtcTimeMachine.{fields_of_text, field_of_text, number_of_text, AreBelow};
 ghost use Rattle.st_batch.specs.UtcTimeMachine.{units_of_fields, utc_of_text};
 ghost use Rattle.st_batch.specs.UtcTime.{IsUtcTime};
-ghost use Rattle.st_dates.specs.Label.{IsPlainLabel};
+ghost use Rattle.st_dates.specs.Label.{IsFormal, formal};
 ghost use Rattle.st_dates.specs.declared.label.Label.{Label};
 
 use st_dates::{Label, SECOND, day_of, is_in_range, read_decimals};
@@ -77,7 +77,7 @@ fn read_fields(text: &[u8]) -> Option<Fields>
 /// The label of a UTC time from 1900-01-01 to 2100-01-01, or nothing where the text is no such time.
 pub fn read_utc(text: &[u8]) -> Option<Label>
     ensures reads { MatchOption result ((label : Label) → IsUtcTime text.now label → ⊥) (λ label. IsUtcTime text.now label) }
-    ensures of_day { IfSome result IsPlainLabel }
+    ensures range { IfSome result (λ label. IsFormal (formal label)) }
     ensures exact { result ≡ utc_of_text text.now }
 {
     find_utc(text)
@@ -86,7 +86,7 @@ pub fn read_utc(text: &[u8]) -> Option<Label>
 #[tactic(auto, unfolding(crate::specs::UtcTimeMachine::utc_of_text))]
 fn find_utc(text: &[u8]) -> Option<Label>
     ensures exact { result ≡ utc_of_text text.now }
-    ensures of_day { IfSome result IsPlainLabel }
+    ensures range { IfSome result (λ label. IsFormal (formal label)) }
 {
     let fields = read_fields(text)?;
     let day = day_of(fields.year as i32, fields.month as u32, fields.day as u32)?;

@@ -2,7 +2,7 @@
 
 ghost use Rattle.std.specs.Prelude.{◌≡◌, ◌&&◌, [], ◌∷◌, ◌++◌, IfOk, OnOk};
 ghost use Rattle.st_pool.specs.Variable.{loaded_values};
-ghost use Rattle.st_batch.specs.NumbersMachine.{numbers_in, are_numbers};
+ghost use Rattle.st_batch.specs.TablesMachine.{numbers_in, are_numbers};
 
 use st_decimal::{Dec, OutOfMemory};
 use st_kernel_text::Value;

@@ -2,7 +2,7 @@ use Rattle.std.proofs.Common.{map, string_bytes, refl, ◌≡◌, ◌≢◌}
 use Rattle.st_outside.proofs.StateLaws.{KeepsFiles-same}
 use Rattle.st_batch.specs.declared.status.Status.TheVariants.{BadWords, ReadFault, InputTooLong}
 use Rattle.st_batch.specs.Texts.{words_line}
-use Rattle.st_batch.proofs.InputLaws.{around}
+use Rattle.st_batch.specs.Outcome.{around}
 use Rattle.st_batch.proofs.RunLaws.{nothing-done, not-answered, not-lines, words-outcome}
 use Rattle.st_batch.proofs.top.run.Goals as goal
 

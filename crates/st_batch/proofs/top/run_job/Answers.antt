@@ -2,7 +2,7 @@ use Rattle.std.proofs.Common.{refl, ◌≡◌, ◌≢◌}
 use Rattle.st_outside.proofs.StateLaws.{KeepsFiles-trans}
 use Rattle.st_batch.specs.declared.status.Status.TheVariants.{BadSetup, ReadFault, InputTooLong}
 use Rattle.st_batch.specs.Texts.{setup_line}
-use Rattle.st_batch.proofs.InputLaws.{around}
+use Rattle.st_batch.specs.Outcome.{around}
 use Rattle.st_batch.proofs.RunLaws.{lines-outcome, no-input, nothing-done, not-answered, not-lines, setup-outcome}
 use Rattle.st_batch.proofs.top.run_job.Goals as goal
 

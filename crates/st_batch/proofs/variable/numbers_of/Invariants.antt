@@ -1,6 +1,6 @@
 use Rattle.std.proofs.Common.{◌≡◌, length, take}
 use Rattle.st_pool.specs.Variable.{loaded_values}
-use Rattle.st_batch.specs.NumbersMachine.{numbers_in, are_numbers}
+use Rattle.st_batch.specs.TablesMachine.{numbers_in, are_numbers}
 use Rattle.st_batch.proofs.variable.numbers_of.Given as goal
 
 abbrev pub invariant-loop-i : goal.invariant-loop-i
