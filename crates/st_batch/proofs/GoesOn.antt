@@ -1,5 +1,5 @@
 -- Answers to some first lines go on to answers to all lines.
-use Rattle.std.proofs.Common.{◌≡◌, ◌≢◌, ℕ, cond, count_by, Option, List, [], ◌∷◌, refl, arith}
+use Rattle.std.proofs.Common.{◌≡◌, ◌≢◌, ℕ, cond, count_by, List, [], ◌∷◌, refl, arith}
 use Rattle.std.proofs.lemmas.List.Sums.{sum_by-cons}
 use Rattle.st_batch.specs.declared.answer.Answer.{Answer}
 use Rattle.st_batch.specs.declared.answer.Answer.TheVariants.{Text, Refused}

@@ -1,8 +1,6 @@
 -- A run whose words, setup and input are good is answered.
-use Rattle.std.proofs.Common.{◌≡◌, ◌≢◌, ℕ, ◌<◌, ◌≤◌, ◌⊎◌, inl, inr, Some, Ok, Err, List, length, refl, arith, subst, ap, sym}
+use Rattle.std.proofs.Common.{◌≡◌, ◌≢◌, ℕ, ◌<◌, ◌≤◌, ◌⊎◌, inl, inr, Some, Ok, List, length, arith, subst}
 use Rattle.st_outside.specs.Entries.{Entries}
-use Rattle.st_batch.specs.declared.fault.WordFault.{WordFault}
-use Rattle.st_batch.specs.declared.fault.WordFault.TheVariants as word
 use Rattle.st_batch.specs.declared.fault.LineFault.{LineFault}
 use Rattle.st_batch.specs.declared.fault.LineFault.TheVariants as line
 use Rattle.st_batch.specs.declared.job.Job.{Job}

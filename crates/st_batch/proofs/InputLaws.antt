@@ -72,19 +72,22 @@ all-answered : (before now : FilesState) (i j : InputState) (a : Moment) (taken 
     → AreLines a.answering.session.job.work a.answering.session.loaded i.left lines → IsReadWhole a.answering.session.job.work j.left → IsShortInput a.answering.session.job.work i.left
     → Completes a now taken lines status
     → (bytes : List ℕ) × Appends a.taken taken bytes × AllAnswered (around before now i j) a.answering.session.job a.answering.session.loaded status bytes
-all-answered before now i j a taken lines status k none fresh are whole short s =
-    (flat_map line_of s.answers, subst (λ (l : List ℕ). Appends a.taken taken (l ++ flat_map line_of s.answers)) none s.appended, record {
-      lines = lines;
-      answers = s.answers;
-      after = s.after;
-      are_lines = are;
-      whole = whole;
-      short = short;
-      answered = runs-before before a lines s.answers s.after k s.answered;
-      counted = counted-from _ _ _ s.answers k.counts s.counted;
-      ended = s.ended ∙ ap (λ t. cond (t || list_any is_refused s.answers) SomeRefused Done) fresh;
-      written = refl;
-    })
+all-answered before now i j a taken lines status k none fresh are whole short s = (
+  flat_map line_of s.answers,
+  subst (λ (l : List ℕ). Appends a.taken taken (l ++ flat_map line_of s.answers)) none s.appended,
+  record {
+    lines = lines;
+    answers = s.answers;
+    after = s.after;
+    are_lines = are;
+    whole = whole;
+    short = short;
+    answered = runs-before before a lines s.answers s.after k s.answered;
+    counted = counted-from _ _ _ s.answers k.counts s.counted;
+    ended = s.ended ∙ ap (λ t. cond (t || list_any is_refused s.answers) SomeRefused Done) fresh;
+    written = refl;
+  },
+)
 
 -- lines that are at hand were answered, as far as the run came
 lines-end : (before now : FilesState) (i j : InputState) (a : Moment) (taken : Option (List ℕ)) (lines : List (List ℕ)) (status : Status)
@@ -135,18 +138,21 @@ some-lines Batch loaded (Some bytes) = (lines_of bytes, refl)
 pub none-answered : (before now : FilesState) (i : InputState) (session : State) (taken : Option (List ℕ)) → KeepsFiles before now
     → Took taken taken (Gives before now i i session OutOfMemory)
 none-answered before now i session taken k =
-    let lines = some-lines session.job.work session.loaded i.left in
-    ([], Appends-nil taken, record {
-      lines = [];
-      more = lines.0;
-      answers = [];
-      after = session.loaded;
-      rest = [];
-      are_lines = lines.1;
-      answered = refl;
-      counted = counted-later _ _ _ [] (counted-none before.counts) k.counts;
-      written = refl;
-    })
+    let lines = some-lines session.job.work session.loaded i.left in (
+      [],
+      Appends-nil taken,
+      record {
+        lines = [];
+        more = lines.0;
+        answers = [];
+        after = session.loaded;
+        rest = [];
+        are_lines = lines.1;
+        answered = refl;
+        counted = counted-later _ _ _ [] (counted-none before.counts) k.counts;
+        written = refl;
+      },
+    )
 
 -- nothing of the input was read
 pub input-none : (input : Option (List ℕ)) (a : Moment) (begun : List ℕ) → begun ≡ [] → ReadsInput input input a a begun 0

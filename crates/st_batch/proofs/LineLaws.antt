@@ -11,9 +11,9 @@ use Rattle.st_batch.specs.declared.answer.Answer.TheVariants.{Text, Refused}
 use Rattle.st_batch.specs.declared.fault.KernelFault.{KernelFault}
 use Rattle.st_batch.specs.declared.fault.KernelFault.TheVariants as kernel
 use Rattle.st_batch.specs.declared.fault.LineFault.{LineFault}
-use Rattle.st_batch.specs.declared.fault.LineFault.TheVariants.{BadCommand, LineTooLong, FileFault, NotLoaded}
+use Rattle.st_batch.specs.declared.fault.LineFault.TheVariants.{BadCommand, LineTooLong, FileFault}
 use Rattle.st_batch.specs.declared.session.TheConstants.{MAX_LINE}
-use Rattle.st_batch.specs.Commands.{CommandGives, IsLoad, IsUnload, IsClear, IsNoCommand, LoadAnswers, UnloadAnswers, after_load, begins_command, load_answer, unload_answer}
+use Rattle.st_batch.specs.Commands.{CommandGives, IsLoad, IsUnload, LoadAnswers, UnloadAnswers, after_load, begins_command, load_answer, unload_answer}
 use Rattle.st_batch.specs.Laws.{EveryLineHasAnswer, OneAnswer}
 use Rattle.st_batch.specs.Load.{LoadGives, line_fault}
 use Rattle.st_batch.specs.Session.{MayAnswer, TextGives}
@@ -143,15 +143,14 @@ some-command s loaded text =
     by (inr never) (inl (name, asked)) c =
         (unload_answer (is_loaded name loaded), (without_last name loaded, inr (inl (name, asked, record { answered = refl; left = refl })), unload-names-none (is_loaded name loaded)))
     by (inr never) (inr none) (inl y) = (Text (codes "cleared"), ([], inr (inr (inl ((bytes_eq-Decides text (codes "$clear")).0 y, refl, refl))), λ e. cc))
-    by (inr never) (inr none) (inr n) =
-        (
-          Refused BadCommand,
-          (
-            loaded,
-            inr (inr (inr (record { load = never; unload = none; clear = λ e. false≢true (sym n ∙ (bytes_eq-Decides text (codes "$clear")).1 e) }, refl, refl))),
-            λ e. cc,
-          ),
-        )
+    by (inr never) (inr none) (inr n) = (
+      Refused BadCommand,
+      (
+        loaded,
+        inr (inr (inr (record { load = never; unload = none; clear = λ e. false≢true (sym n ∙ (bytes_eq-Decides text (codes "$clear")).1 e) }, refl, refl))),
+        λ e. cc,
+      ),
+    )
 
 -- every line has an answer that names no fault of the files
 pub some-answer : EveryLineHasAnswer

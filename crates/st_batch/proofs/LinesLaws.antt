@@ -8,7 +8,6 @@ use Rattle.std.proofs.lemmas.List.Folds.{list_any-append}
 use Rattle.std.proofs.lemmas.List.Sums.{sum_by-append}
 use Rattle.st_outside.specs.Causes.{AreLater, FileCounts, RoseBy}
 use Rattle.st_outside.specs.States.{FilesState}
-use Rattle.st_outside.proofs.StateLaws.{AreLater-same}
 use Rattle.st_batch.specs.declared.answer.Answer.{Answer}
 use Rattle.st_batch.specs.declared.answering.Answering.{Answering}
 use Rattle.st_batch.specs.declared.status.Status.{Status}

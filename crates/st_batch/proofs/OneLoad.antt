@@ -13,7 +13,7 @@ use Rattle.st_batch.specs.declared.fault.KernelFault.{KernelFault}
 use Rattle.st_batch.specs.declared.fault.KernelFault.TheVariants.{NoFile, FileFault, FileTooLong, KernelText, TooManyKernels, TooManyValues, OutOfMemory}
 use Rattle.st_batch.specs.declared.load.TheConstants.{MAX_FILE}
 use Rattle.st_batch.specs.Laws.{EveryLoadingGives, OneLoading}
-use Rattle.st_batch.specs.Load.{BytesGive, FileGives, LoadGives, Takes}
+use Rattle.st_batch.specs.Load.{LoadGives, Takes}
 use Rattle.st_batch.specs.Setting.{Loaded}
 use Rattle.st_batch.proofs.KernelLaws as text
 

@@ -1,7 +1,7 @@
 -- Where the files had no fault the definitions allow one whole output.
-use Rattle.std.proofs.Common.{◌≡◌, ◌≢◌, ℕ, ◌+◌, ◌-◌, ◌^◌, ◌<◌, ◌⊎◌, inl, inr, cond, count_by, Option, Some, Ok, Err, List, [], ◌∷◌, ◌++◌, refl, sym, ap, ◌∙◌, subst, arith}
+use Rattle.std.proofs.Common.{◌≡◌, ◌≢◌, ℕ, ◌+◌, ◌-◌, ◌^◌, ◌<◌, ◌⊎◌, inl, inr, cond, count_by, Option, Some, Ok, Err, List, [], ◌∷◌, refl, sym, ap, ◌∙◌, subst, arith}
 use Rattle.std.proofs.lemmas.List.Sums.{sum_by-cons}
-use Rattle.st_outside.specs.Causes.{FileCounts, RoseBy}
+use Rattle.st_outside.specs.Causes.{RoseBy}
 use Rattle.st_outside.specs.Entries.{Entries}
 use Rattle.st_batch.specs.declared.answer.Answer.{Answer}
 use Rattle.st_batch.specs.declared.answer.Answer.TheVariants.{Refused}

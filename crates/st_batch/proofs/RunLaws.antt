@@ -1,5 +1,5 @@
 -- What a run wrote is what it may write, by how it ended.
-use Rattle.std.proofs.Common.{◌≡◌, ◌≢◌, ℕ, ◌⊎◌, inl, inr, Option, Ok, Err, List, [], ◌∷◌, ◌++◌, refl, sym, ap, ◌∙◌, subst}
+use Rattle.std.proofs.Common.{◌≡◌, ◌≢◌, ℕ, inl, inr, Option, Ok, Err, List, [], refl, sym, ap, ◌∙◌, subst}
 use Rattle.std.proofs.KnownBytes.{Appends-nil}
 use Rattle.st_outside.specs.States.{FilesState, InputState}
 use Rattle.st_batch.specs.declared.fault.WordFault.{WordFault}
@@ -54,9 +54,12 @@ pub setup-outcome : (o : Outside) (words : List (List ℕ)) (job : Job) (cause :
 setup-outcome o words job cause status taken after asked given caused unread (inl (appends, same)) =
     let P : Status → Type 0 = λ s. Outcome o words s (setup_line cause) in
     (setup_line cause, appends, subst P (sym same) (record { job = job; asked = asked; given = given; caused = caused; unread = unread; written = refl }))
-setup-outcome o words job cause status taken after asked given caused unread (inr ((front, rest, appends, e), cut)) =
-    (front, appends, cut-off o words status front cut
-    (λ s. inr (inl (rest, inr (cause, record { job = job; asked = asked; given = given; caused = caused; unread = unread; written = sym e })))))
+setup-outcome o words job cause status taken after asked given caused unread (inr ((front, rest, appends, e), cut)) = (
+  front,
+  appends,
+  cut-off o words status front cut
+      (λ s. inr (inl (rest, inr (cause, record { job = job; asked = asked; given = given; caused = caused; unread = unread; written = sym e })))),
+)
 
 -- words that were refused
 pub words-outcome : (o : Outside) (words : List (List ℕ)) (fault : WordFault) (status : Status) (taken after : Option (List ℕ)) → WordsGive words (Err fault)

@@ -1,10 +1,7 @@
 -- The commands, and the answer of a line from that of its text.
-use Rattle.std.proofs.Common.{◌≡◌, ◌≢◌, ℕ, ◌≤◌, ◌⊎◌, inl, inr, Bool, true, false, Option, Result, Ok, Err, IfOk, List, [], length, codes, refl, sym, ap, ◌∙◌, subst}
-use Rattle.std.proofs.lemmas.Bool.{cases_Bool, false≢true}
-use Rattle.std.proofs.lemmas.Slice.Eq.{bytes_eq-Decides}
-use Rattle.std.specs.Str.{bytes_eq}
+use Rattle.std.proofs.Common.{◌≡◌, ◌≢◌, ℕ, ◌≤◌, inl, inr, Bool, true, false, Option, Result, Ok, Err, IfOk, List, [], length, codes, refl, sym, ◌∙◌, subst}
 use Rattle.st_outside.specs.Entries.{Entries}
-use Rattle.st_pool.specs.Loaded.{is_loaded, without_last}
+use Rattle.st_pool.specs.Loaded.{is_loaded}
 use Rattle.st_text.specs.Lines.{trimmed}
 use Rattle.st_batch.specs.declared.answer.Answer.{Answer}
 use Rattle.st_batch.specs.declared.answer.Answer.TheVariants.{Text, Refused}
@@ -13,11 +10,11 @@ use Rattle.st_batch.specs.declared.fault.KernelFault.{KernelFault}
 use Rattle.st_batch.specs.declared.fault.KernelFault.TheVariants as kernel
 use Rattle.st_batch.specs.Causes.{IsAnswerCaused, IsCaused}
 use Rattle.st_batch.specs.declared.fault.LineFault.{LineFault}
-use Rattle.st_batch.specs.declared.fault.LineFault.TheVariants.{BadCommand, LineTooLong, FileFault, NotLoaded, OutOfMemory}
+use Rattle.st_batch.specs.declared.fault.LineFault.TheVariants.{BadCommand, LineTooLong, NotLoaded, OutOfMemory}
 use Rattle.st_batch.specs.declared.job.Job.{Job}
 use Rattle.st_batch.specs.declared.job.Work.TheVariants.{Batch}
 use Rattle.st_batch.specs.declared.session.TheConstants.{MAX_LINE}
-use Rattle.st_batch.specs.Commands.{CommandGives, IsLoad, IsUnload, LoadAnswers, UnloadAnswers, begins_command, load_answer, unload_answer}
+use Rattle.st_batch.specs.Commands.{LoadAnswers, begins_command, load_answer, unload_answer}
 use Rattle.st_batch.specs.Load.{LoadGives, line_fault}
 use Rattle.st_batch.specs.Session.{MayAnswer, TextGives}
 use Rattle.st_batch.specs.Setting.{Loaded, Setting}

@@ -1,5 +1,5 @@
 -- What the definitions of a run say by themselves, as laws.
-use Rattle.std.specs.Prelude.{◌≡◌, ◌≢◌, ℕ, ◌<◌, ◌^◌, ◌-◌, Option, Some, Result, Ok, Err, List, [], ◌++◌, count_by, length, ◌≤◌, ⊤}
+use Rattle.std.specs.Prelude.{◌≡◌, ◌≢◌, ℕ, ◌<◌, ◌^◌, ◌-◌, Option, Some, Result, Ok, Err, List, ◌++◌, count_by, length, ◌≤◌, ⊤}
 use Rattle.st_outside.specs.Entries.{Entries}
 use Rattle.st_batch.specs.declared.answer.Answer.{Answer}
 use Rattle.st_batch.specs.declared.answer.Answer.TheVariants.{Refused}

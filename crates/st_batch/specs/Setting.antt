@@ -1,5 +1,5 @@
 -- What stays the same from line to line, and what a session keeps between two lines.
-use Rattle.std.specs.Prelude.{ℕ, Option, List}
+use Rattle.std.specs.Prelude.{Option, List}
 use Rattle.st_outside.specs.Entries.{Entries}
 use Rattle.st_pool.specs.declared.kernel.Kernel.{Kernel}
 use Rattle.st_batch.specs.declared.job.Job.{Job}

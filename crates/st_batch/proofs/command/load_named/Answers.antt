@@ -1,5 +1,4 @@
-use Rattle.std.proofs.Common.{◌≡◌, ◌≢◌, Ok, Err, IfOk, Result, refl, sym, ap, subst}
-use Rattle.st_batch.specs.declared.fault.KernelFault.TheVariants.{OutOfMemory}
+use Rattle.std.proofs.Common.{Ok, refl}
 use Rattle.st_batch.proofs.SessionLaws.{load-refused, refused-caused}
 use Rattle.st_batch.proofs.command.load_named.Goals as goal
 

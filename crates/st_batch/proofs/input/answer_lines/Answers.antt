@@ -1,6 +1,3 @@
-use Rattle.std.proofs.Common.{◌≡◌, ap, sym, ◌∙◌, Option, List, ℕ}
-use Rattle.st_batch.specs.declared.job.Job.{Job}
-use Rattle.st_batch.specs.WordsMachine.{work_of}
 use Rattle.st_batch.proofs.InputLaws.{none-answered, time-ends, session-told, given-work}
 use Rattle.st_batch.proofs.input.answer_lines.Goals as goal
 

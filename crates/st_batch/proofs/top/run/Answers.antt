@@ -1,4 +1,4 @@
-use Rattle.std.proofs.Common.{map, string_bytes, refl, ◌≡◌, ◌≢◌}
+use Rattle.std.proofs.Common.{map, string_bytes, refl}
 use Rattle.st_outside.proofs.StateLaws.{KeepsFiles-same}
 use Rattle.st_batch.specs.declared.status.Status.TheVariants.{BadWords, ReadFault, InputTooLong}
 use Rattle.st_batch.specs.Texts.{words_line}

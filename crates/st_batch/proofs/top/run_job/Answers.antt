@@ -1,4 +1,4 @@
-use Rattle.std.proofs.Common.{refl, ◌≡◌, ◌≢◌}
+use Rattle.std.proofs.Common.{refl}
 use Rattle.st_outside.proofs.StateLaws.{KeepsFiles-trans}
 use Rattle.st_batch.specs.declared.status.Status.TheVariants.{BadSetup, ReadFault, InputTooLong}
 use Rattle.st_batch.specs.Texts.{setup_line}
