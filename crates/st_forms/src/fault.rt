@@ -5,7 +5,7 @@ use thiserror::Error;
 /// Why a text is no time of a source, in the order in which the reasons are tested.
 #[derive(Clone, Copy, Debug, PartialEq, Eq, Error)]
 pub enum FormFault {
-    /// The text has none of the forms that are taken. So has one with an hour above 23, a minute above
+    /// The text has none of the forms that are taken. Nor has one with an hour above 23, a minute above
     /// 59 or a second above 60.
     #[error("no time")]
     BadTime,

@@ -1,10 +1,7 @@
 //! Texts of each form and near misses of each, against answers by the table of forms.
 
 use crate::{Form, FormFault, TimeText, read_time};
-use st_dates::{Label, System};
-
-/// The units of 10^-18 s in a second.
-const SECOND: i128 = 1_000_000_000_000_000_000;
+use st_dates::{Label, SECOND, System};
 
 /// Calendar dates without a time, and their days past 2000-01-01.
 const DATES: [(&[u8], i32); 31] = [
@@ -244,7 +241,11 @@ const UTC_REFUSALS: [(&[u8], FormFault); 31] = [
 ];
 
 /// Texts of a source in TT with their first refusal.
-const TT_REFUSALS: [(&[u8], FormFault); 13] = [
+const TT_REFUSALS: [(&[u8], FormFault); 14] = [
+    (
+        b"-99999999999999999999999999999999999999999999",
+        FormFault::OutOfRange,
+    ),
     (b"1996-12-18 UTC", FormFault::WrongSystem),
     (b"1996-12-18 ET", FormFault::WrongSystem),
     (b"JD 2451545 UTC", FormFault::WrongSystem),
@@ -267,7 +268,11 @@ const TT_REFUSALS: [(&[u8], FormFault); 13] = [
 ];
 
 /// Calendar dates with a scale word or near an end of the range: the days past 2000-01-01 and the seconds.
-const NAMED: [(&[u8], System, i32, i64); 13] = [
+const NAMED: [(&[u8], System, i32, i64); 17] = [
+    (b"1996-12-18 UTC", System::Utc, -1109, 0),
+    (b"1996-353 UTC", System::Utc, -1109, 0),
+    (b"DEC 18, 1996 UTC", System::Utc, -1109, 0),
+    (b"12/18/1996 UTC", System::Utc, -1109, 0),
     (b"DEC 18, 1996 12:28:28", System::Utc, -1109, 44_908),
     (b"1996-353T12:28:28", System::Utc, -1109, 44_908),
     (b"12/18/1996 12:28:28 UTC", System::Utc, -1109, 44_908),
@@ -441,4 +446,9 @@ fn reads_second_sixty(rt: HostRuntime) {
             assert_eq!(rt; read_time(&text, System::Tt, Form::Any), Ok(answer));
         }
     }
+    let decimals = b"2000-01-01T10:10:60.5";
+    assert_eq!(rt;
+        read_time(decimals, System::Utc, Form::Any),
+        Ok(TimeText::NoSecond)
+    );
 }
