@@ -1,5 +1,5 @@
 -- Each text has an answer, and one alone.
-use Rattle.std.proofs.Common.{◌≡◌, sym, ◌∙◌}
+use Rattle.std.proofs.Common.{sym, ◌∙◌}
 use Rattle.st_forms.specs.Laws.{EachHasAnswer, OneAnswer}
 use Rattle.st_forms.specs.ReadingMachine.{time_of_text}
 use Rattle.st_forms.proofs.TimeLaws.{reads, only}

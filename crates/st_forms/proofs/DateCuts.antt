@@ -1,10 +1,10 @@
 -- A text that was read to a date begins with one of the forms of a date.
-use Rattle.std.proofs.Common.{◌≡◌, ℕ, true, ◌==◌, ◌⊎◌, inl, inr, refl, sym, ap, ◌∙◌, subst, List, [], ◌∷◌, ◌++◌, Option, Some, None, append_assoc}
+use Rattle.std.proofs.Common.{◌≡◌, ℕ, inl, inr, refl, ap, ◌∙◌, subst, List, ◌∷◌, ◌++◌, Option, Some, append_assoc}
 use Rattle.std.proofs.lemmas.Option.{same_Some}
 use Rattle.std.specs.Option.{option_or}
 use Rattle.st_text.specs.Bytes.{number_of}
 use Rattle.st_text.specs.Lines.{skip_blanks}
-use Rattle.st_text.specs.Scan.{◌>>=◌, after, IsDigitRun}
+use Rattle.st_text.specs.Scan.{◌>>=◌, after}
 use Rattle.st_text.proofs.Logic.{bound}
 use Rattle.st_text.proofs.Runs.{after_is}
 use Rattle.st_dates.specs.DayText.{DayText, numeric, named, of_year, day_spelling, AreDayParts, NamesDate}
@@ -14,13 +14,13 @@ use Rattle.st_dates.specs.Names.{NamesMonth}
 use Rattle.st_dates.specs.NamesMachine.{month_named}
 use Rattle.st_dates.specs.declared.day_text.CalendarDate.{CalendarDate}
 use Rattle.st_dates.specs.declared.day_text.CalendarDate.TheVariants.{OfMonth}
-use Rattle.st_dates.proofs.DayCuts.{Cut, day_cut}
+use Rattle.st_dates.proofs.DayCuts.{day_cut}
 use Rattle.st_dates.proofs.NameLaws.{names}
 use Rattle.st_forms.specs.DateForm.{DateText, year_month_day, year_place, year_name_day, day_name_year, name_day_year, month_day_year, dashes, gaps, date_spelling, day_text, IsGap, AreDateParts}
 use Rattle.st_forms.specs.DateMachine.{named_month, year_first, day_first, slashed, month_first, date_of_text}
 use Rattle.st_forms.specs.WordMachine.{run, word, past_word, past_gap}
 use Rattle.st_forms.proofs.Choices.{either_of}
-use Rattle.st_forms.proofs.Cutting.{RunCut, run_cut, GapCut, gap_cut, SkipCut, skip_cut, word_joined}
+use Rattle.st_forms.proofs.Cutting.{run_cut, GapCut, gap_cut, skip_cut, word_joined}
 
 abbrev pub Dated : Type 0
 Dated = CalendarDate × List ℕ

@@ -1,14 +1,13 @@
 -- A text that begins with a form of a date is read to that date.
-use Rattle.std.proofs.Common.{◌≡◌, ℕ, true, false, ◌==◌, ◌≤◌, inl, inr, refl, sym, ap, ◌∙◌, arith, List, [], ◌∷◌, ◌++◌, length, ℤ, Option, Some, None, append_assoc}
+use Rattle.std.proofs.Common.{◌≡◌, ℕ, true, false, ◌==◌, ◌≤◌, inl, inr, refl, sym, ap, ◌∙◌, arith, List, [], ◌∷◌, ◌++◌, length, Some, None, append_assoc}
 use Rattle.std.proofs.lemmas.Bool.{cases_Bool, eqb-true}
 use Rattle.std.specs.Char.{is_ascii_digit}
 use Rattle.std.specs.List.{list_all}
-use Rattle.st_text.specs.Bytes.{is_blank, are_blanks, are_digits, number_of}
-use Rattle.st_text.specs.Lines.{skip_blanks}
+use Rattle.st_text.specs.Bytes.{is_blank, are_blanks, number_of}
 use Rattle.st_text.specs.Scan.{leading_digits, past_digits, after, IsDigitRun, is_digit_run}
 use Rattle.st_text.proofs.Logic.{and-left}
 use Rattle.st_text.proofs.Runs.{Stops, behind-fail, past_at, after_byte}
-use Rattle.st_dates.specs.DayText.{DayText, numeric, named, of_year, day_spelling, AreDayParts, NamesDate}
+use Rattle.st_dates.specs.DayText.{DayText, numeric, named, of_year, day_spelling, NamesDate}
 use Rattle.st_dates.specs.DayText.{day_first as day_of_kernel}
 use Rattle.st_dates.specs.DayTextMachine.{day_of_text}
 use Rattle.st_dates.specs.Names.{NamesMonth}
@@ -16,9 +15,9 @@ use Rattle.st_dates.specs.declared.day_text.CalendarDate.{CalendarDate}
 use Rattle.st_dates.specs.declared.day_text.CalendarDate.TheVariants.{OfMonth}
 use Rattle.st_dates.proofs.DayForms.{day_read}
 use Rattle.st_dates.proofs.NameLaws.{only, is_letter, name_letters, name_some, letters_pass, letters_stop}
-use Rattle.st_forms.specs.DateForm.{DateText, year_month_day, year_place, year_name_day, day_name_year, name_day_year, month_day_year, Separators, dashes, gaps, date_spelling, day_text, IsGap, AreDateParts}
+use Rattle.st_forms.specs.DateForm.{DateText, year_month_day, year_place, year_name_day, day_name_year, name_day_year, month_day_year, dashes, gaps, date_spelling, day_text, IsGap, AreDateParts}
 use Rattle.st_forms.specs.DateMachine.{named_month, year_first, day_first, slashed, month_first, date_of_text}
-use Rattle.st_forms.specs.WordMachine.{run, is_no_blank, word, past_word, past_gap}
+use Rattle.st_forms.specs.WordMachine.{run, is_no_blank, past_gap}
 use Rattle.st_forms.proofs.Cutting.{run_at, run_fewer, run_no_digit, skipped, gap_at, gap_none, digits_first, gap_no_digit, gap_ends, gap_other, letter_no_blank, letter_no_digit, no_blank, word_at, past_word_at}
 
 -- what a spelled date is read to

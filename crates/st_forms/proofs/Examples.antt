@@ -1,5 +1,5 @@
 -- A text of each form, cut by computation, and one that the definitions spell.
-use Rattle.std.proofs.Common.{◌≡◌, ◌*◌, ◌^◌, inr, refl, arith, Some, None, ℕ, List, pos, neg_ℤ}
+use Rattle.std.proofs.Common.{◌≡◌, ◌*◌, ◌^◌, inr, refl, arith, Some, None, ℕ, pos, neg_ℤ}
 use Rattle.std.specs.Prelude.{codes}
 use Rattle.st_text.specs.Scan.{leading, behind, after, IsDigitRun, is_digit_run}
 use Rattle.st_dates.specs.DayTextMachine.{month_of_name, with_day, with_year, month_next, day_of_text}

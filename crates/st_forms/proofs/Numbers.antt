@@ -1,13 +1,11 @@
 -- A decimal is read exactly, but for one that is far out of the range.
-use Rattle.std.proofs.Common.{◌≡◌, ◌≢◌, ℕ, zero, suc, true, false, ◌+◌, ◌-◌, ◌*◌, ◌^◌, ◌<◌, ◌≤◌, ◌==◌, min, inl, inr, refl, sym, ap, ◌∙◌, arith, List, [], ◌∷◌, ◌++◌, length, take, get_or, Option, Some, None}
-use Rattle.std.proofs.lemmas.Bool.{cases_Bool, eqb-true}
+use Rattle.std.proofs.Common.{◌≡◌, ℕ, true, false, ◌+◌, ◌-◌, ◌*◌, ◌^◌, ◌<◌, ◌≤◌, ◌==◌, min, inl, inr, refl, sym, ap, ◌∙◌, arith, List, [], ◌∷◌, ◌++◌, length, take, get_or, Option, Some, None}
+use Rattle.std.proofs.lemmas.Bool.{cases_Bool}
 use Rattle.std.proofs.lemmas.Bool.Decides.{nat_tests}
-use Rattle.std.proofs.lemmas.List.{append-nil}
 use Rattle.std.proofs.lemmas.Option.{same_Some}
 use Rattle.std.specs.Char.{is_ascii_digit}
-use Rattle.std.specs.List.{list_all}
-use Rattle.st_text.specs.Bytes.{are_digits, number_of}
-use Rattle.st_text.specs.Scan.{◌>>=◌, leading_digits, past_digits, IsDigitRun}
+use Rattle.st_text.specs.Bytes.{are_digits}
+use Rattle.st_text.specs.Scan.{leading_digits, past_digits}
 use Rattle.st_text.proofs.Logic.{bound}
 use Rattle.st_text.proofs.Numbers.{number_of-take_more}
 use Rattle.st_text.proofs.Runs.{Stops, leading-at, behind-at, joined, leading_passes}
@@ -15,7 +13,7 @@ use Rattle.st_dates.specs.Decimals.{SpellsDecimals, units_of_decimals}
 use Rattle.st_dates.specs.TimeTextMachine.{decimal_units}
 use Rattle.st_dates.proofs.DecimalLaws.{decimals_spell, decimals_only}
 use Rattle.st_decimal.specs.Number.{pointed}
-use Rattle.st_forms.specs.NumberForm.{NumberText, number_spelling, AreDecimals, AreNumberParts, decimal_part, number_units}
+use Rattle.st_forms.specs.NumberForm.{NumberText, number_spelling, AreDecimals, AreNumberParts, decimal_part}
 use Rattle.st_forms.specs.NumberMachine.{capped, number_of_text}
 use Rattle.st_forms.specs.declared.number.TheConstants.{FAR}
 

@@ -1,5 +1,5 @@
 -- What was read is spelled by the text.
-use Rattle.std.proofs.Common.{◌≡◌, ℕ, Bool, true, false, ◌||◌, ◌==◌, ◌⊎◌, inl, inr, refl, sym, ap, ◌∙◌, subst, arith, List, [], ◌∷◌, ◌++◌, ℤ, Option, Some, None, append_assoc}
+use Rattle.std.proofs.Common.{◌≡◌, ℕ, Bool, true, false, ◌||◌, ◌==◌, inl, inr, refl, sym, ap, ◌∙◌, subst, arith, List, [], ◌∷◌, ◌++◌, Option, Some}
 use Rattle.std.specs.Prelude.{codes}
 use Rattle.std.proofs.lemmas.Bool.{cases_Bool, or_cases, eqb-true}
 use Rattle.std.proofs.lemmas.Bool.Decides.{nat_tests}
@@ -8,7 +8,6 @@ use Rattle.std.specs.Option.{option_or}
 use Rattle.st_text.specs.Scan.{◌>>=◌}
 use Rattle.st_text.proofs.Logic.{bound}
 use Rattle.st_dates.specs.Names.{AreSameLetters}
-use Rattle.st_dates.specs.TimeText.{time_spelling}
 use Rattle.st_dates.specs.declared.clock.TimeOfDay.{TimeOfDay}
 use Rattle.st_dates.specs.declared.day_text.CalendarDate.{CalendarDate}
 use Rattle.st_dates.specs.declared.system.System.{System}
@@ -29,7 +28,7 @@ use Rattle.st_forms.proofs.Cutting.{GapCut, gap_cut, word_joined}
 use Rattle.st_forms.proofs.DateCuts.{DateCut, date_cut}
 use Rattle.st_forms.proofs.Numbers.{read_units, NumberCut, number_cut}
 use Rattle.st_forms.proofs.ReadingForms.{IsReadingOf}
-use Rattle.st_forms.proofs.Tails.{NamesScale, ScaleCut, scale_cut, TailCut, tail_cut, word_passes}
+use Rattle.st_forms.proofs.Tails.{NamesScale, scale_cut, TailCut, tail_cut, word_passes}
 
 -- what a text was that was read to a time
 pub record ReadingCut (text : List ℕ) (r : Reading) : Type 0 where

@@ -1,13 +1,11 @@
 -- A spelled time is read.
-use Rattle.std.proofs.Common.{◌≡◌, ℕ, Bool, true, false, ◌&&◌, ◌||◌, ◌==◌, ◌≤◌, inl, inr, refl, sym, ap, ◌∙◌, subst, arith, List, [], ◌∷◌, ◌++◌, length, ℤ, Option, Some, None, append_assoc}
+use Rattle.std.proofs.Common.{◌≡◌, ℕ, Bool, true, false, ◌||◌, ◌==◌, ◌≤◌, inl, inr, refl, sym, ap, ◌∙◌, subst, arith, List, [], ◌∷◌, ◌++◌, length, Option, Some, None, append_assoc}
 use Rattle.std.specs.Prelude.{codes}
 use Rattle.std.proofs.lemmas.Bool.{cases_Bool}
 use Rattle.std.proofs.lemmas.Bool.Decides.{nat_tests}
 use Rattle.std.specs.Char.{is_ascii_digit}
 use Rattle.std.specs.List.{list_all}
-use Rattle.std.specs.Option.{option_or}
 use Rattle.st_text.specs.Bytes.{is_blank, are_blanks, are_digits}
-use Rattle.st_text.specs.Scan.{leading, IsDigitRun}
 use Rattle.st_text.proofs.Logic.{and-left}
 use Rattle.st_text.proofs.Runs.{Stops, leading-pass}
 use Rattle.st_dates.specs.DayText.{NamesDate}
@@ -19,7 +17,7 @@ use Rattle.st_dates.specs.TimeTextMachine.{decimal_units}
 use Rattle.st_dates.specs.declared.clock.TimeOfDay.{TimeOfDay}
 use Rattle.st_dates.specs.declared.day_text.CalendarDate.{CalendarDate}
 use Rattle.st_dates.specs.declared.system.System.{System}
-use Rattle.st_dates.proofs.NameLaws.{only, is_letter, same_letters, same_length, letters_pass, letters_stop, name_letters, name_some}
+use Rattle.st_dates.proofs.NameLaws.{only, is_letter, same_letters, same_length, letters_pass, name_letters, name_some}
 use Rattle.st_decimal.specs.Number.{pointed}
 use Rattle.st_decimal.specs.Value.{is_minus, signed}
 use Rattle.st_forms.specs.DateForm.{DateText, year_month_day, year_place, year_name_day, day_name_year, name_day_year, month_day_year, dashes, gaps, date_spelling, day_text, IsGap, AreDateParts}

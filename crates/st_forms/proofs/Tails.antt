@@ -1,7 +1,7 @@
 -- What follows a date is read exactly where it is a time, a scale word or both.
-use Rattle.std.proofs.Common.{◌≡◌, ℕ, Bool, true, false, not, ◌&&◌, ◌||◌, ◌==◌, ◌≤◌, ◌⊎◌, inl, inr, refl, sym, ap, ◌∙◌, subst, arith, List, [], ◌∷◌, ◌++◌, length, Option, Some, None, if◌then◌else◌, append_assoc}
+use Rattle.std.proofs.Common.{◌≡◌, ℕ, Bool, true, false, ◌||◌, ◌==◌, ◌≤◌, ◌⊎◌, inl, inr, refl, sym, ap, ◌∙◌, subst, arith, List, [], ◌∷◌, ◌++◌, length, Option, Some, None, if◌then◌else◌, append_assoc}
 use Rattle.std.specs.Prelude.{codes}
-use Rattle.std.proofs.lemmas.Bool.{cases_Bool, or_cases, eqb-true}
+use Rattle.std.proofs.lemmas.Bool.{cases_Bool, or_cases}
 use Rattle.std.proofs.lemmas.Bool.Decides.{nat_tests}
 use Rattle.std.proofs.lemmas.List.Folds.{list_all-append}
 use Rattle.std.proofs.lemmas.Option.{same_Some}
@@ -9,19 +9,19 @@ use Rattle.std.proofs.lemmas.Slice.Eq.{bytes_eq-Decides}
 use Rattle.std.specs.Char.{is_ascii_digit, to_ascii_lowercase}
 use Rattle.std.specs.List.{list_all}
 use Rattle.std.specs.Str.{bytes_eq}
-use Rattle.st_text.specs.Bytes.{is_blank, are_blanks, are_digits, number_of}
+use Rattle.st_text.specs.Bytes.{is_blank, are_blanks, are_digits}
 use Rattle.st_text.specs.Scan.{◌>>=◌, IsDigitRun}
 use Rattle.st_text.proofs.Logic.{and-left, and-right, bound}
 use Rattle.st_text.proofs.Runs.{Stops}
 use Rattle.st_dates.specs.Names.{AreSameLetters, lowered}
-use Rattle.st_dates.specs.TimeText.{Clock, minutes, seconds, decimals, clock_spelling, IsField, AreClockParts, minute_of, second_units, TimeText, midnight, after_mark, time_spelling, time_units}
-use Rattle.st_dates.specs.TimeTextMachine.{clock_of, day_units}
+use Rattle.st_dates.specs.TimeText.{Clock, minutes, seconds, decimals, clock_spelling, AreClockParts, minute_of, second_units, TimeText, midnight, after_mark, time_spelling}
+use Rattle.st_dates.specs.TimeTextMachine.{clock_of}
 use Rattle.st_dates.specs.declared.clock.TimeOfDay.{TimeOfDay}
 use Rattle.st_dates.specs.declared.system.System.{System}
 use Rattle.st_dates.specs.declared.system.System.TheVariants.{Utc, Tai, Tt, Tdb, Sclk}
-use Rattle.st_dates.proofs.ClockCuts.{ClockCut, clock_cut}
+use Rattle.st_dates.proofs.ClockCuts.{clock_cut}
 use Rattle.st_dates.proofs.ClockForms.{time, clock_read}
-use Rattle.st_dates.proofs.NameLaws.{is_letter, same_letters, same_length, letters_stop}
+use Rattle.st_dates.proofs.NameLaws.{is_letter, same_letters, same_length}
 use Rattle.st_forms.specs.DateForm.{IsGap}
 use Rattle.st_forms.specs.Scale.{NamesSystem, ScaleText, unnamed, by_word, scale_spelling, AreScaleParts}
 use Rattle.st_forms.specs.TailMachine.{is_word, system_named, scale_of_text, Tail, timed, begins_with_digit, spaced, tail_of_text}

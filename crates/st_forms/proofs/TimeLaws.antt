@@ -1,13 +1,12 @@
 -- Reading a time answers what the relation allows, and the relation allows one answer.
-use Rattle.std.proofs.Common.{◌≡◌, ◌≢◌, ℕ, Bool, true, false, not, ◌&&◌, inl, inr, refl, sym, ap, ◌∙◌, subst, List, ℤ, Option, Some, None, Result, Ok, Err}
+use Rattle.std.proofs.Common.{◌≡◌, ◌≢◌, ℕ, Bool, true, false, not, ◌&&◌, inl, inr, refl, sym, ap, ◌∙◌, subst, List, Option, Some, None, Result, Ok, Err}
 use Rattle.std.proofs.lemmas.Bool.{cases_Bool}
 use Rattle.std.proofs.lemmas.Option.{same_Some}
 use Rattle.st_text.specs.Lines.{trimmed}
 use Rattle.st_text.proofs.Logic.{and-left, and-right}
-use Rattle.st_dates.specs.Range.{IsInRange}
 use Rattle.st_dates.specs.declared.system.System.{System}
 use Rattle.st_dates.specs.declared.system.System.TheVariants.{Utc, Tai, Tt, Tdb, Sclk}
-use Rattle.st_forms.specs.Reading.{Written, calendar, julian, plain, spelling, AreParts, Takes, Spells, NamesNoOther, IsValueOf, StandsFor, ReadsTime}
+use Rattle.st_forms.specs.Reading.{Written, calendar, julian, plain, Takes, Spells, NamesNoOther, ReadsTime}
 use Rattle.st_forms.specs.ReadingMachine.{reading_of, is_utc, takes_dates, takes_seconds, is_taken, is_same, names_other, scale_of, value_of, checked, answer_of, time_of_text}
 use Rattle.st_forms.specs.Scale.{NamesSystem, ScaleText, unnamed, by_word, IsOfSystem}
 use Rattle.st_forms.specs.declared.form.Form.{Form}

@@ -1,5 +1,5 @@
 -- What was read has the value of the written time, and the same first refusal.
-use Rattle.std.proofs.Common.{◌≡◌, ◌≢◌, ℕ, Bool, true, false, not, ◌+◌, ◌*◌, ◌^◌, ◌≤◌, ◌<◌, ◌==◌, ◌&&◌, ◌⊎◌, nat_le, inl, inr, refl, sym, ap, ◌∙◌, subst, arith, min, List, ℤ, pos, neg_ℤ, ◌≤ℤ◌, ◌-ℤ◌, ◌*ℤ◌, int_le, Option, Some, None, Result, Ok, Err}
+use Rattle.std.proofs.Common.{◌≡◌, ◌≢◌, ℕ, Bool, true, false, not, ◌+◌, ◌*◌, ◌^◌, ◌≤◌, ◌==◌, ◌&&◌, ◌⊎◌, nat_le, inl, inr, refl, sym, ap, ◌∙◌, subst, arith, min, List, ℤ, pos, Option, Some, None, Result, Ok, Err}
 use Rattle.std.proofs.lemmas.Bool.{cases_Bool}
 use Rattle.std.proofs.lemmas.Bool.Decides.{nat_tests}
 use Rattle.std.proofs.lemmas.Int.{ints}
@@ -7,7 +7,7 @@ use Rattle.std.proofs.lemmas.Option.{same_Some}
 use Rattle.st_text.specs.Bytes.{number_of}
 use Rattle.st_text.proofs.Logic.{tested, passed}
 use Rattle.st_dates.specs.AtDateMachine.{is_in_range}
-use Rattle.st_dates.specs.DayText.{DayText, numeric, named, of_year, NamesDate, IsDayOf}
+use Rattle.st_dates.specs.DayText.{DayText, numeric, named, of_year, NamesDate}
 use Rattle.st_dates.specs.DayText.{day_first as day_of_kernel}
 use Rattle.st_dates.specs.DayTextMachine.{number_in}
 use Rattle.st_dates.specs.Label.{formal}
@@ -23,7 +23,6 @@ use Rattle.st_dates.proofs.NameLaws.{only}
 use Rattle.st_decimal.specs.Value.{is_minus, signed}
 use Rattle.st_forms.specs.DateForm.{DateText, day_text}
 use Rattle.st_forms.specs.NumberForm.{NumberText, number_units, decimal_part}
-use Rattle.st_forms.specs.NumberMachine.{capped}
 use Rattle.st_forms.specs.Reading.{Written, calendar, julian, plain, IsLabelOf, julian_instant, IsValueOf, StandsFor}
 use Rattle.st_forms.specs.ReadingMachine.{is_no_second, labelled, on_day, ranged, value_of}
 use Rattle.st_forms.specs.Scale.{ScaleText}

@@ -1,5 +1,5 @@
 -- How a date is read: each form from the left, one after the other.
-use Rattle.std.specs.Prelude.{ℕ, List, Option, Some, None}
+use Rattle.std.specs.Prelude.{ℕ, List, Option, Some}
 use Rattle.std.specs.Option.{option_or}
 use Rattle.st_text.specs.Lines.{skip_blanks}
 use Rattle.st_text.specs.Scan.{◌>>=◌, after}

@@ -8,7 +8,6 @@ use Rattle.st_dates.specs.DayTextMachine.{number_in, HasFourDigits}
 use Rattle.st_dates.specs.Label.{formal}
 use Rattle.st_dates.specs.TimeTextMachine.{day_units}
 use Rattle.st_dates.specs.declared.clock.TimeOfDay.{TimeOfDay}
-use Rattle.st_dates.specs.declared.day_text.CalendarDate.{CalendarDate}
 use Rattle.st_dates.specs.declared.label.Label.{Label}
 use Rattle.st_dates.specs.declared.system.System.{System}
 use Rattle.st_dates.specs.declared.system.System.TheVariants.{Utc, Tai, Tt, Tdb, Sclk}

@@ -1,8 +1,8 @@
 -- The time of day behind a date. Source: Time Required Reading. It stands behind a `T` or blanks; hours
 -- go to 23, minutes to 59 and seconds to 60.
-use Rattle.std.specs.Prelude.{◌≡◌, ◌≢◌, ℕ, ◌*◌, ◌^◌, ◌≤◌, ◌⊎◌, List, codes}
+use Rattle.std.specs.Prelude.{◌≢◌, ℕ, ◌*◌, ◌^◌, ◌≤◌, ◌⊎◌, List, codes}
 use Rattle.st_dates.specs.Names.{AreSameLetters}
-use Rattle.st_dates.specs.TimeText.{Clock, AreClockParts, minute_of, second_units, TimeText, midnight, after_mark}
+use Rattle.st_dates.specs.TimeText.{AreClockParts, minute_of, second_units, TimeText, midnight, after_mark}
 use Rattle.st_forms.specs.DateForm.{IsGap}
 
 -- `T` in any letter case, or blanks

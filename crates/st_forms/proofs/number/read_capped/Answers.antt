@@ -1,4 +1,4 @@
-use Rattle.std.proofs.Common.{◌+◌, ◌*◌, ◌∙◌, ap, ℕ, min, arith}
+use Rattle.std.proofs.Common.{◌+◌, ◌*◌, ◌∙◌, ap, ℕ, min}
 use Rattle.st_forms.proofs.Numbers.{next_digit}
 use Rattle.st_forms.proofs.number.read_capped.Goals as goal
 
