@@ -8,13 +8,14 @@ use Rattle.st_batch.specs.declared.answer.Answer.{Answer}
 use Rattle.st_batch.specs.declared.answer.Answer.TheVariants.{Text, Refused}
 use Rattle.st_batch.specs.declared.fault.KernelFault.{KernelFault}
 use Rattle.st_batch.specs.declared.fault.LineFault.TheVariants.{BadCommand, NotLoaded}
+use Rattle.st_batch.specs.Limits.{most_file_name_bytes}
 use Rattle.st_batch.specs.Load.{LoadGives, line_fault}
 use Rattle.st_batch.specs.Setting.{Loaded}
 
 -- a name by which a file may be loaded: UTF-8 of 1 to 255 bytes
 pub record IsFileName (name : List ℕ) : Type 0 where
   pub some : 1 ≤ length name
-  pub short : length name ≤ 255
+  pub short : length name ≤ most_file_name_bytes
   pub utf8 : IsUtf8 name
 
 -- the text is a word, some blanks, and a name, which begins behind the last of them

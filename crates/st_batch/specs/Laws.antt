@@ -10,6 +10,7 @@ use Rattle.st_batch.specs.declared.job.Job.{Job}
 use Rattle.st_batch.specs.declared.status.Status.{Status}
 use Rattle.st_batch.specs.declared.status.Status.TheVariants.{Done, SomeRefused, BadWords, BadSetup, InputTooLong}
 use Rattle.st_batch.specs.Causes.{is_file_fault}
+use Rattle.st_batch.specs.Limits.{most_input_bytes}
 use Rattle.st_batch.specs.Load.{LoadGives}
 use Rattle.st_batch.specs.Outcome.{HaveEnded, Outcome, Outside, over}
 use Rattle.st_batch.specs.Session.{MayAnswer, RunsTo}
@@ -92,5 +93,5 @@ IsAnsweredOrCut status = ⊤
 abbrev pub GoodRunIsAnswered : Type 0
 GoodRunIsAnswered =
     (o : Outside) (files : Entries) (input : List ℕ) (words : List (List ℕ)) (job : Job) (loaded : Loaded) (status : Status) (bytes : List ℕ)
-    → o.files.map ≡ Some files → o.input.left ≡ Some input → WordsGive words (Ok job) → SetupGives (over o job) (Ok loaded) → length input ≤ 67_108_864
+    → o.files.map ≡ Some files → o.input.left ≡ Some input → WordsGive words (Ok job) → SetupGives (over o job) (Ok loaded) → length input ≤ most_input_bytes
     → Outcome o words status bytes → IsAnsweredOrCut status

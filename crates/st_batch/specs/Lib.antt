@@ -2,6 +2,7 @@ pub mod Causes
 pub mod Commands
 pub mod Laws
 pub mod LinesSteps
+pub mod Limits
 pub mod Load
 pub mod LoadSteps
 pub mod Outcome

@@ -5,6 +5,7 @@ use Rattle.st_kernel_text.specs.declared.assignment.Assignment.{Assignment}
 use Rattle.st_kernel_text.specs.declared.fault.TextFault.{TextFault}
 use Rattle.st_kernel_text.specs.declared.fault.TextFault.TheVariants as text
 use Rattle.st_outside.specs.Entries.{Entries, bytes_of, IsAbsent}
+use Rattle.st_pool.specs.Limits.{most_kernels, most_values}
 use Rattle.st_pool.specs.Loaded.{value_count, loaded_count}
 use Rattle.st_pool.specs.declared.fault.LoadFault.{LoadFault}
 use Rattle.st_pool.specs.declared.fault.LoadFault.TheVariants as pool
@@ -13,6 +14,7 @@ use Rattle.st_batch.specs.declared.fault.KernelFault.{KernelFault}
 use Rattle.st_batch.specs.declared.fault.KernelFault.TheVariants.{NoFile, FileFault, FileTooLong, KernelText, TooManyKernels, TooManyValues, OutOfMemory}
 use Rattle.st_batch.specs.declared.fault.LineFault.{LineFault}
 use Rattle.st_batch.specs.declared.fault.LineFault.TheVariants as line
+use Rattle.st_batch.specs.Limits.{most_file_bytes}
 use Rattle.st_batch.specs.Setting.{Loaded}
 
 -- the file of this name has these bytes
@@ -23,16 +25,16 @@ HasFile (Some files) name bytes = bytes_of name files ≡ Some bytes
 -- the file of this name has more bytes than a file may have
 abbrev pub HasLongFile : Option Entries → List ℕ → Type 0
 HasLongFile None name = ⊤
-HasLongFile (Some files) name = (bytes : List ℕ) × (bytes_of name files ≡ Some bytes) × (16_777_216 < length bytes)
+HasLongFile (Some files) name = (bytes : List ℕ) × (bytes_of name files ≡ Some bytes) × (most_file_bytes < length bytes)
 
 -- What a loaded list makes of a kernel: it stands at the end of the new list, where fewer than 1,000 kernels are loaded and
 -- the values of all are at most 2,000,000.
 abbrev pub Takes : Loaded → Kernel → Result Loaded KernelFault → Type 0
 Takes loaded kernel (Ok after) =
-    (length loaded < 1000) × (loaded_count loaded + value_count kernel.assignments ≤ 2_000_000) × (after ≡ loaded ++ kernel ∷ [])
-Takes loaded kernel (Err TooManyKernels) = 1000 ≤ length loaded
+    (length loaded < most_kernels) × (loaded_count loaded + value_count kernel.assignments ≤ most_values) × (after ≡ loaded ++ kernel ∷ [])
+Takes loaded kernel (Err TooManyKernels) = most_kernels ≤ length loaded
 Takes loaded kernel (Err TooManyValues) =
-    (length loaded < 1000) × (2_000_000 < loaded_count loaded + value_count kernel.assignments)
+    (length loaded < most_kernels) × (most_values < loaded_count loaded + value_count kernel.assignments)
 Takes loaded kernel (Err fault) = ⊥
 
 -- what the bytes of a file give: its first fault as a kernel text, or what the loaded list makes of its assignments
@@ -45,7 +47,7 @@ BytesGive bytes loaded name result =
 pub record FileGives (files : Option Entries) (loaded : Loaded) (name : List ℕ) (result : Result Loaded KernelFault) : Type 0 where
   pub bytes : List ℕ
   pub has : HasFile files name bytes
-  pub few : length bytes ≤ 16_777_216
+  pub few : length bytes ≤ most_file_bytes
   pub gives : BytesGive bytes loaded name result
 
 -- What a loading may give: the loaded list after it, or why there is none. That a file was faulty is told by the

@@ -14,6 +14,7 @@ use Rattle.st_batch.specs.declared.job.Work.TheVariants.{Batch}
 use Rattle.st_batch.specs.declared.status.Status.{Status}
 use Rattle.st_batch.specs.declared.status.Status.TheVariants.{Done, SomeRefused, BadWords, BadSetup, ReadFault, WriteFault, OutOfMemory, InputTooLong}
 use Rattle.st_batch.specs.Causes.{AreCounted, IsCaused}
+use Rattle.st_batch.specs.Limits.{most_input_bytes}
 use Rattle.st_batch.specs.Session.{RunsTo}
 use Rattle.st_batch.specs.Setting.{Loaded, Setting}
 use Rattle.st_batch.specs.Setup.{SetupGives}
@@ -105,7 +106,7 @@ pub record AnsweredTillFault (o : Outside) (job : Job) (loaded : Loaded) (bytes 
 -- the input, where it tells its bytes, has more than it may have
 abbrev pub IsLongInput : Option (List ℕ) → Type 0
 IsLongInput None = ⊤
-IsLongInput (Some bytes) = 67_108_864 < length bytes
+IsLongInput (Some bytes) = most_input_bytes < length bytes
 
 -- what was written of the lines of a job, from a loaded list on, by how their answering ended
 abbrev pub LinesOutcome : Outside → Job → Loaded → Status → List ℕ → Type 0

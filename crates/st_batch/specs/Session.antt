@@ -5,6 +5,7 @@ use Rattle.st_batch.specs.declared.answer.Answer.{Answer}
 use Rattle.st_batch.specs.declared.answer.Answer.TheVariants.{Refused}
 use Rattle.st_batch.specs.declared.fault.LineFault.TheVariants.{LineTooLong}
 use Rattle.st_batch.specs.Commands.{CommandGives, begins_command}
+use Rattle.st_batch.specs.Limits.{most_line_bytes}
 use Rattle.st_batch.specs.Setting.{Loaded, Setting}
 use Rattle.st_batch.specs.Times.{TimeGives}
 
@@ -17,8 +18,8 @@ TextGives s loaded text answer after =
 -- A line may be given an answer, with this loaded list after it.
 abbrev pub MayAnswer : Setting → Loaded → List ℕ → Answer → Loaded → Type 0
 MayAnswer s loaded line answer after =
-    ((1000 < length line) × (answer ≡ Refused LineTooLong) × (after ≡ loaded))
-    ⊎ ((length line ≤ 1000) × TextGives s loaded (trimmed line) answer after)
+    ((most_line_bytes < length line) × (answer ≡ Refused LineTooLong) × (after ≡ loaded))
+    ⊎ ((length line ≤ most_line_bytes) × TextGives s loaded (trimmed line) answer after)
 
 -- each line may be given its answer, by the loaded list that the lines before it leave
 abbrev pub RunsTo : Setting → Loaded → List (List ℕ) → List Answer → Loaded → Type 0

@@ -6,6 +6,7 @@ use Rattle.st_batch.specs.declared.fault.WordFault.TheVariants.{NotBuilt, OutOfM
 use Rattle.st_batch.specs.declared.job.Job.{Job}
 use Rattle.st_batch.specs.declared.job.Work.{Work}
 use Rattle.st_batch.specs.declared.job.Work.TheVariants.{Time, Batch}
+use Rattle.st_batch.specs.Limits.{most_input_bytes, most_file_name_bytes}
 use Rattle.st_batch.specs.Setting.{Loaded}
 
 -- the last words say where the lines come from: one is given, or they are those of the input
@@ -17,7 +18,7 @@ work_words Batch = codes "-batch" ∷ []
 pub record AskFor (words : List (List ℕ)) (job : Job) : Type 0 where
   pub shape : words ≡ codes "-setup" ∷ job.setup ∷ codes "-from" ∷ codes "UTC" ∷ codes "-to" ∷ codes "TAI" ∷ work_words job.work
   pub named : 1 ≤ length job.setup
-  pub short : length job.setup ≤ 255
+  pub short : length job.setup ≤ most_file_name_bytes
 
 -- What the words give: the job that they ask for, or that they ask for none.
 abbrev pub WordsGive : List (List ℕ) → Result Job WordFault → Type 0
@@ -33,5 +34,5 @@ AreLines Batch loaded (Some bytes) lines = lines ≡ lines_of bytes
 
 -- the input, where it is read, has no more bytes than it may have
 abbrev pub IsShortInput : Work → Option (List ℕ) → Type 0
-IsShortInput Batch (Some bytes) = length bytes ≤ 67_108_864
+IsShortInput Batch (Some bytes) = length bytes ≤ most_input_bytes
 IsShortInput work input = ⊤

@@ -4,6 +4,7 @@ ghost use Rattle.std.specs.Prelude.{◌≡◌, ◌+◌, ◌≢◌, ◌≤◌, fa
 ghost use Rattle.st_outside.specs.Causes.{Rose, RoseBeyond};
 ghost use Rattle.st_outside.specs.States.{FilesState, KeepsFiles};
 ghost use Rattle.st_text.specs.Lines as lines;
+ghost use Rattle.st_batch.specs.Limits.{most_input_bytes};
 ghost use Rattle.st_batch.specs.LinesSteps.{AnswersLine, CutsAtFeed, Finishes, FinishesWriting, ReadsText, StopsInText, moment};
 ghost use Rattle.st_batch.specs.Outcome.{HasNoFeed, IsAnswered, LinesOutcome, Took, around};
 ghost use Rattle.st_batch.specs.WordsMachine.{work_of};
@@ -36,8 +37,8 @@ pub fn answer_lines<F: Files, I: Source, O: Sink>(
         (around before (F.state files.new) (I.state input.old) (I.state input.new)) session.job session.loaded result) }
     ensures write_fault { result ≡ Status.WriteFault → Rose (O.faults out.old) (O.faults out.new) }
     ensures read_fault { result ≡ Status.ReadFault → Rose (I.state input.old).faults (I.state input.new).faults }
-    ensures too_long { result ≡ Status.InputTooLong → RoseBeyond 67108864 (I.state input.old).taken (I.state input.new).taken }
-    ensures short { IsAnswered result → (I.state input.new).taken ≤ (I.state input.old).taken + 67108864 }
+    ensures too_long { result ≡ Status.InputTooLong → RoseBeyond most_input_bytes (I.state input.old).taken (I.state input.new).taken }
+    ensures short { IsAnswered result → (I.state input.new).taken ≤ (I.state input.old).taken + most_input_bytes }
     ensures unread { session.job.work ≢ Work.Batch → I.state input.new ≡ I.state input.old }
     ensures files { KeepsFiles (F.state files.old) (F.state files.new) }
 {
@@ -77,8 +78,8 @@ fn answer_input<F: Files, I: Source, O: Sink>(
         (around before (F.state files.new) (I.state input.old) (I.state input.new)) answering.old.session.job answering.old.session.loaded result) }
     ensures write_fault { result ≡ Status.WriteFault → Rose (O.faults out.old) (O.faults out.new) }
     ensures read_fault { result ≡ Status.ReadFault → Rose (I.state input.old).faults (I.state input.new).faults }
-    ensures too_long { result ≡ Status.InputTooLong → RoseBeyond 67108864 (I.state input.old).taken (I.state input.new).taken }
-    ensures short { IsAnswered result → (I.state input.new).taken ≤ (I.state input.old).taken + 67108864 }
+    ensures too_long { result ≡ Status.InputTooLong → RoseBeyond most_input_bytes (I.state input.old).taken (I.state input.new).taken }
+    ensures short { IsAnswered result → (I.state input.new).taken ≤ (I.state input.old).taken + most_input_bytes }
     ensures files { KeepsFiles (F.state files.old) (F.state files.new) }
 {
     let mut begun = Vec::new(answering.alloc);

@@ -4,6 +4,7 @@ ghost use Rattle.std.specs.Prelude.{◌≡◌, ◌≢◌, ◌≤◌, true, false
 ghost use Rattle.st_outside.specs.Causes.{AreLater};
 ghost use Rattle.st_outside.specs.States.{KeepsFiles};
 ghost use Rattle.st_batch.specs.Causes.{IsCaused};
+ghost use Rattle.st_batch.specs.Limits.{most_file_bytes};
 ghost use Rattle.st_batch.specs.Load.{BytesGive, HasFile, LoadGives, line_fault};
 ghost use Rattle.st_batch.specs.LoadSteps.{BytesRefuse, IsRest, RestRefuses};
 ghost use Rattle.st_batch.specs.Setting.{Loaded};
@@ -56,7 +57,7 @@ fn load_bytes(alloc: Global, pool: &mut Pool, name: &[u8], bytes: &[u8]) -> Resu
 /// The bytes of the file of this name, which has at most `MAX_FILE`. No file is open afterwards.
 fn read_file<F: Files>(alloc: Global, name: &[u8], files: &mut F) -> Result<Vec<u8>, KernelFault>
     ensures ok { IfOk result (λ bytes. HasFile (F.state files.old).map name.now bytes.items) }
-    ensures few { IfOk result (λ bytes. length bytes.items ≤ 16777216) }
+    ensures few { IfOk result (λ bytes. length bytes.items ≤ most_file_bytes) }
     ensures err { IfErr result (λ fault. fault ≢ KernelFault.OutOfMemory
         → (loaded : Loaded) → LoadGives (F.state files.old).map loaded name.now (Err fault)) }
     ensures cause { IfErr result (λ fault. IsCaused (line_fault fault) (F.state files.old).counts (F.state files.new).counts) }
@@ -79,7 +80,7 @@ fn read_file<F: Files>(alloc: Global, name: &[u8], files: &mut F) -> Result<Vec<
 fn read_open<F: Files>(alloc: Global, files: &mut F) -> Result<Vec<u8>, KernelFault>
     requires { (F.state files.old).opened ≡ true }
     ensures ok { IfOk result (λ bytes. IsRest (F.state files.old).left bytes.items) }
-    ensures few { IfOk result (λ bytes. length bytes.items ≤ 16777216) }
+    ensures few { IfOk result (λ bytes. length bytes.items ≤ most_file_bytes) }
     ensures err { IfErr result (RestRefuses (F.state files.old).left) }
     ensures cause { IfErr result (λ fault. IsCaused (line_fault fault) (F.state files.old).counts (F.state files.new).counts) }
     ensures map { (F.state files.new).map ≡ (F.state files.old).map }

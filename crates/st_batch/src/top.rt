@@ -3,6 +3,7 @@
 ghost use Rattle.std.specs.Prelude.{◌≡◌, ◌≤◌, ◌+◌, ◌≢◌, ℕ, List, Ok, Err, false, map, string_bytes};
 ghost use Rattle.st_outside.specs.Causes.{Rose, RoseBeyond};
 ghost use Rattle.st_outside.specs.States.{KeepsFiles};
+ghost use Rattle.st_batch.specs.Limits.{most_input_bytes};
 ghost use Rattle.st_batch.specs.Outcome.{IsAnswered, Outcome, ReadsNothing, Took, around};
 ghost use Rattle.st_batch.specs.OutputSteps.{Delivers, IsCut};
 ghost use Rattle.st_batch.specs.Texts as texts;
@@ -39,10 +40,10 @@ pub fn run<F: Files, I: Source, O: Sink>(
     // An end by a fault has its cause, whether bytes are told or not.
     ensures write_fault { result ≡ Status.WriteFault → Rose (O.faults out.old) (O.faults out.new) }
     ensures read_fault { result ≡ Status.ReadFault → Rose (I.state input.old).faults (I.state input.new).faults }
-    ensures too_long { result ≡ Status.InputTooLong → RoseBeyond 67108864 (I.state input.old).taken (I.state input.new).taken }
+    ensures too_long { result ≡ Status.InputTooLong → RoseBeyond most_input_bytes (I.state input.old).taken (I.state input.new).taken }
 
     // The input is not read further than it may be, and not at all where there are no lines of it to answer.
-    ensures short { IsAnswered result → (I.state input.new).taken ≤ (I.state input.old).taken + 67108864 }
+    ensures short { IsAnswered result → (I.state input.new).taken ≤ (I.state input.old).taken + most_input_bytes }
     ensures unread { ReadsNothing (map string_bytes words.now) result → I.state input.new ≡ I.state input.old }
 
     ensures files { KeepsFiles (F.state files.old) (F.state files.new) }
@@ -66,8 +67,8 @@ fn run_job<F: Files, I: Source, O: Sink>(
         (around (F.state files.old) (F.state files.new) (I.state input.old) (I.state input.new)) words result) }
     ensures write_fault { result ≡ Status.WriteFault → Rose (O.faults out.old) (O.faults out.new) }
     ensures read_fault { result ≡ Status.ReadFault → Rose (I.state input.old).faults (I.state input.new).faults }
-    ensures too_long { result ≡ Status.InputTooLong → RoseBeyond 67108864 (I.state input.old).taken (I.state input.new).taken }
-    ensures short { IsAnswered result → (I.state input.new).taken ≤ (I.state input.old).taken + 67108864 }
+    ensures too_long { result ≡ Status.InputTooLong → RoseBeyond most_input_bytes (I.state input.old).taken (I.state input.new).taken }
+    ensures short { IsAnswered result → (I.state input.new).taken ≤ (I.state input.old).taken + most_input_bytes }
     ensures unread { (words : List (List ℕ)) → WordsGive words (Ok job) → ReadsNothing words result → I.state input.new ≡ I.state input.old }
     ensures files { KeepsFiles (F.state files.old) (F.state files.new) }
 {
