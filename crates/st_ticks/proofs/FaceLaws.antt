@@ -11,7 +11,7 @@ use Rattle.std.proofs.lemmas.Option.{slice_get-get_or, get_or_from_slice_get}
 use Rattle.st_text.specs.Bytes.{decimal_digits}
 use Rattle.st_ticks.specs.ClockText.{Parts}
 use Rattle.st_ticks.specs.Face.{Face, IsFace, IsPartition, ticks_in, earlier, total}
-use Rattle.st_ticks.specs.FaceParts.{AreBegins}
+use Rattle.st_ticks.specs.FaceSteps.{AreBegins}
 use Rattle.st_ticks.specs.Laws.{CanonicalIsOne}
 use Rattle.st_ticks.specs.Reading.{count_of}
 use Rattle.st_ticks.specs.ReadingMachine.{capped_values, capped_partition, from_offsets, are_small, is_numbered, partition_at, meant_place, ticked, counted_of, judged, clock_of}
@@ -19,7 +19,7 @@ use Rattle.st_ticks.specs.SpellingMachine.{fields_text}
 use Rattle.st_ticks.specs.TextMachine.{parts_of}
 use Rattle.st_ticks.specs.Tick.{IsPartitionOf, IsCanonical, spelled, count_at}
 use Rattle.st_ticks.specs.TickMachine.{place_of, partition_of, canonical}
-use Rattle.st_ticks.specs.WrittenText.{HoldsParts}
+use Rattle.st_ticks.specs.WrittenSteps.{HoldsParts}
 use Rattle.st_ticks.specs.declared.clock_text.Written.{Written}
 use Rattle.st_ticks.specs.declared.fault.ClockTextFault.TheVariants.{Form, TooManyFields, NoPartition, FieldBelowOffset, TooLarge}
 use Rattle.st_ticks.specs.declared.field.Partition.{Partition}

@@ -1,6 +1,6 @@
 pub mod ClockText
 pub mod Face
-pub mod FaceParts
+pub mod FaceSteps
 pub mod Laws
 pub mod MakingMachine
 pub mod NumbersMachine
@@ -11,6 +11,6 @@ pub mod SpellingMachine
 pub mod TextMachine
 pub mod Tick
 pub mod TickMachine
-pub mod ValueList
+pub mod ValuesSteps
 pub mod Variables
-pub mod WrittenText
+pub mod WrittenSteps

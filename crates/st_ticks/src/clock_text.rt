@@ -2,7 +2,7 @@
 
 ghost use Rattle.std.specs.Prelude.{◌≡◌, MatchOption};
 ghost use Rattle.st_ticks.specs.TextMachine.{parts_of};
-ghost use Rattle.st_ticks.specs.WrittenText.{HoldsParts};
+ghost use Rattle.st_ticks.specs.WrittenSteps.{HoldsParts};
 
 use crate::cut::split_partition;
 use crate::values::{Values, capped_number, read_values};

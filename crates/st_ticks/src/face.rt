@@ -48,7 +48,7 @@ pub struct Face {
 
 impl Model for Face {
     ghost use Rattle.st_ticks.specs.Face.{Face as Seen};
-    ghost use Rattle.st_ticks.specs.FaceParts.{seen, IsSound};
+    ghost use Rattle.st_ticks.specs.FaceSteps.{seen, IsSound};
 
     ghost Value = { Seen };
 

@@ -5,11 +5,13 @@ use st_decimal::OutOfMemory;
 use thiserror::Error;
 
 /// Why a face is not made.
-#[derive(Clone, Copy, Debug, PartialEq, Eq)]
+#[derive(Clone, Copy, Debug, PartialEq, Eq, Error)]
 pub enum FaceFault {
     /// The first fault of the clock's variables.
+    #[error("{0}")]
     Bad(ClockFault),
     /// Memory was refused.
+    #[error("out of memory")]
     OutOfMemory,
 }
 

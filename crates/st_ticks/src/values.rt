@@ -4,7 +4,7 @@ ghost use Rattle.std.specs.Prelude.{◌≡◌, ◌≤◌, IsTrue, MatchOption};
 ghost use Rattle.st_text.specs.Bytes.{are_digits};
 ghost use Rattle.st_ticks.specs.ReadingMachine as machine;
 ghost use Rattle.st_ticks.specs.TextMachine.{runs};
-ghost use Rattle.st_ticks.specs.ValueList.{HoldsText};
+ghost use Rattle.st_ticks.specs.ValuesSteps.{HoldsText};
 
 use crate::cut::{past_separator, split_digits};
 use st_text::are_blanks;
@@ -37,7 +37,7 @@ pub fn capped_number(digits: &[u8]) -> u64
 
 impl Values {
     ghost use Rattle.std.specs.Prelude.{◌+◌, ◌<◌, ◌^◌, ◌++◌, ◌∷◌, [], List, ℕ};
-    ghost use Rattle.st_ticks.specs.ValueList.{HoldsFields};
+    ghost use Rattle.st_ticks.specs.ValuesSteps.{HoldsFields};
 
     /// One value more.
     fn push(&mut self, number: u64)

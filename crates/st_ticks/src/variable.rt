@@ -1,5 +1,7 @@
 //! The variables of kernels from which tables are made, and the faults of a clock's variables.
 
+use thiserror::Error;
+
 /// A variable of a type 1 clock. Source: NAIF's SCLK Required Reading.
 #[derive(Clone, Copy, Debug, PartialEq, Eq, Hash)]
 pub enum ClockVar {
@@ -43,7 +45,8 @@ pub enum ClockWhy {
 }
 
 /// The first fault of a clock's variables.
-#[derive(Clone, Copy, Debug, PartialEq, Eq, Hash)]
+#[derive(Clone, Copy, Debug, PartialEq, Eq, Hash, Error)]
+#[error("{var:?} of a clock: {why:?}")]
 pub struct ClockFault {
     pub var: ClockVar,
     pub why: ClockWhy,

@@ -2,8 +2,8 @@ use Rattle.std.proofs.Common.{◌≡◌, ℕ, List, Some, None, refl, sym, ap}
 use Rattle.st_text.specs.Lines.{skip_blanks}
 use Rattle.st_ticks.specs.ReadingMachine.{capped}
 use Rattle.st_ticks.specs.TextMachine.{partition_in, parts_of}
-use Rattle.st_ticks.specs.ValueList.{HoldsText}
-use Rattle.st_ticks.specs.WrittenText.{HoldsParts}
+use Rattle.st_ticks.specs.ValuesSteps.{HoldsText}
+use Rattle.st_ticks.specs.WrittenSteps.{HoldsParts}
 use Rattle.st_ticks.specs.declared.values.Values.{Values}
 use Rattle.st_ticks.proofs.clock_text.read_parts.Goals as goal
 

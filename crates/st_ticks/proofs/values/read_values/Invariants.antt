@@ -1,6 +1,6 @@
 use Rattle.std.proofs.Common.{◌≡◌, ◌+◌, ◌≤◌, ℕ, List, length}
 use Rattle.st_ticks.specs.TextMachine.{runs}
-use Rattle.st_ticks.specs.ValueList.{HoldsFields}
+use Rattle.st_ticks.specs.ValuesSteps.{HoldsFields}
 use Rattle.st_ticks.proofs.RunLaws.{ahead}
 use Rattle.st_ticks.proofs.values.read_values.Given as goal
 

@@ -1,6 +1,6 @@
 use Rattle.std.proofs.Common.{◌≡◌, ◌+◌, ◌-◌, ◌^◌, ◌≤◌, List, length, get_or, sym, ap, ◌∙◌, subst, arith}
 use Rattle.st_ticks.specs.Face.{Face, IsFace}
-use Rattle.st_ticks.specs.FaceParts.{seen}
+use Rattle.st_ticks.specs.FaceSteps.{seen}
 use Rattle.st_ticks.specs.ReadingMachine.{partition_at}
 use Rattle.st_ticks.specs.declared.field.Partition.{Partition}
 use Rattle.st_ticks.proofs.FaceLaws.{begins_of, placed, count_same}

@@ -2,7 +2,7 @@ use Rattle.std.proofs.Common.{◌≡◌, ℕ, ◌^◌, ◌<◌, ◌≤◌, List,
 use Rattle.std.specs.List.{All}
 use Rattle.std.proofs.lemmas.Result.{err_from_is_err_and}
 use Rattle.st_ticks.specs.Face.{Face, IsDelimiter, IsField, IsPartition, span_of_rest, ticks_in}
-use Rattle.st_ticks.specs.FaceParts.{seen, AreBegins}
+use Rattle.st_ticks.specs.FaceSteps.{seen, AreBegins}
 use Rattle.st_ticks.specs.NumbersMachine.{numbers_of}
 use Rattle.st_ticks.specs.Variables.{IsNumber, MakesFace}
 use Rattle.st_ticks.specs.declared.fault.FaceFault.{FaceFault}

@@ -1,7 +1,7 @@
 use Rattle.std.proofs.Common.{ℕ, List, sym, subst}
 use Rattle.std.specs.List.Sorted.{IsNonDecreasingBy}
 use Rattle.st_ticks.specs.Face.{Face, IsFace}
-use Rattle.st_ticks.specs.FaceParts.{seen}
+use Rattle.st_ticks.specs.FaceSteps.{seen}
 use Rattle.st_ticks.proofs.FaceLaws.{begins_rise, begins_of, place_found}
 use Rattle.st_ticks.proofs.face.Face.place_of.Goals as goal
 

@@ -2,7 +2,7 @@ use Rattle.std.proofs.Common.{◌≡◌, ℕ, Bool, true, false, None, Option, L
 use Rattle.st_ticks.specs.Face.{Face, IsFace}
 use Rattle.st_ticks.specs.ReadingMachine.{is_numbered}
 use Rattle.st_ticks.specs.TextMachine.{parts_of}
-use Rattle.st_ticks.specs.WrittenText.{HoldsParts}
+use Rattle.st_ticks.specs.WrittenSteps.{HoldsParts}
 use Rattle.st_ticks.specs.declared.field.Partition.{Partition}
 use Rattle.st_ticks.proofs.FaceLaws.{judged_form, judged_many, judged_unnumbered, judged_good}
 use Rattle.st_ticks.proofs.face.Face.read.Goals as goal

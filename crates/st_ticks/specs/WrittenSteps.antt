@@ -3,7 +3,7 @@ use Rattle.std.specs.Prelude.{◌≡◌, ℕ, List, Some}
 use Rattle.st_ticks.specs.ClockText.{Parts}
 use Rattle.st_ticks.specs.ReadingMachine.{capped_partition}
 use Rattle.st_ticks.specs.TextMachine.{parts_of}
-use Rattle.st_ticks.specs.ValueList.{HoldsFields}
+use Rattle.st_ticks.specs.ValuesSteps.{HoldsFields}
 use Rattle.st_ticks.specs.declared.clock_text.Written.{Written}
 
 pub record HoldsParts (text : List ℕ) (written : Written) : Type 0 where
