@@ -17,10 +17,10 @@ use Rattle.st_clock.specs.declared.ticks.Ticks.{Ticks}
 use Rattle.st_clock.specs.declared.ticks.Ticks.TheVariants.{Before, At, After}
 use Rattle.st_clock.specs.declared.ticks.TicksUndecided.{TicksUndecided}
 use Rattle.st_clock.specs.Clock.{Clock, tpm, total, AreRising, IsClock, IsLast, BeginsBy, StartsBy, IsTimeOf, line_time}
-use Rattle.st_clock.specs.InForce.{IsInForce}
-use Rattle.st_clock.specs.Kept.{IsSound}
-use Rattle.st_clock.specs.Nearest.{IsFloorOrFar}
-use Rattle.st_clock.specs.Small.{IsSmall}
+use Rattle.st_clock.specs.InForceSteps.{IsInForce}
+use Rattle.st_clock.specs.KeptSteps.{IsSound}
+use Rattle.st_clock.specs.NearestSteps.{IsFloorOrFar}
+use Rattle.st_clock.specs.SmallSteps.{IsSmall}
 use Rattle.st_clock.specs.Tick.{line_tick, capped, IsNumberOf, TickOf, GivesTicks}
 use Rattle.st_clock.specs.Time.{value_of, IsInRange, HasNoTime, GivesTime}
 use Rattle.st_clock.proofs.Falls.{line_tick-den, capped-den, half_more-den, tick_is_one}

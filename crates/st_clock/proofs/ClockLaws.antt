@@ -11,7 +11,7 @@ use Rattle.st_ticks.specs.declared.variable.ClockFault.{ClockFault}
 use Rattle.st_ticks.proofs.FirstLaws.{first_is_one, none_broken}
 use Rattle.st_clock.specs.declared.coefficient.Coefficient.{Coefficient}
 use Rattle.st_clock.specs.Clock.{Clock, IsClock}
-use Rattle.st_clock.specs.Kept.{seen, IsSound}
+use Rattle.st_clock.specs.KeptSteps.{seen, IsSound}
 use Rattle.st_clock.specs.Parts.{IsTick, IsTime, IsRate, IsRecordAt, AreRecords, Keeps, system_rules, record_rules, clock_rules, GivesScale, GivesRecords, GivesClock}
 use Rattle.st_clock.proofs.PartLaws.{times_ten_is_one, one_scale}
 use Rattle.st_clock.proofs.RecordLaws.{tick_is_one, time_is_one, same_value, records_small, records_rise}

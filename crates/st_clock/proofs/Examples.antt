@@ -1,17 +1,21 @@
 -- The definitions on worked values: the clocks of SCLK kernels with one and with two records, from fields of 4294967296
 -- and 256 counts, so that a second has 256 ticks.
-use Rattle.std.proofs.Common.{◌≡◌, ℕ, zero, suc, ◌*◌, ◌^◌, ◌<◌, ◌≤◌, ℤ, pos, negsuc, List, [], ◌∷◌, Some, slice_get, refl, sym, subst, lit<, lit≤, arith}
+use Rattle.std.proofs.Common.{◌≡◌, ℕ, zero, suc, ◌*◌, ◌^◌, ◌<◌, ◌≤◌, ℤ, pos, negsuc, List, [], ◌∷◌, Some, slice_get, refl, sym, subst, lit<, lit≤, arith, ◌<ℤ◌, false, inl}
 use Rattle.std.specs.Int.Signed.{le_z_yes, lt_z_yes}
 use Rattle.st_fraction.specs.Fraction.{Fraction, ◌≤ᶠ◌, ◌<ᶠ◌, over, units}
 use Rattle.st_fraction.proofs.Order.{not_both_f}
-use Rattle.st_ticks.specs.Face.{Face}
+use Rattle.std.specs.List.{All}
+use Rattle.st_scales.specs.declared.deltet.Deltet.{Deltet}
+use Rattle.st_ticks.specs.Face.{Face, IsField, IsPartition}
+use Rattle.st_clock.specs.Covered.{IsCovered}
+use Rattle.st_clock.specs.Return.{IsPrinted}
 use Rattle.st_ticks.specs.declared.field.Field.{Field}
 use Rattle.st_ticks.specs.declared.field.Partition.{Partition}
 use Rattle.st_scales.specs.declared.scale.Scale.{Scale}
 use Rattle.st_scales.specs.declared.scale.Scale.TheVariants.{Tt, Tdb}
 use Rattle.st_clock.specs.declared.coefficient.Coefficient.{Coefficient}
 use Rattle.st_clock.specs.declared.ticks.Ticks.TheVariants.{Before, At, After}
-use Rattle.st_clock.specs.Clock.{Clock, IsLast, StartsBy, BeginsBy, IsTimeOf}
+use Rattle.st_clock.specs.Clock.{Clock, IsLast, StartsBy, BeginsBy, IsTimeOf, IsClock}
 use Rattle.st_clock.specs.Tick.{TickOf}
 
 abbrev second : ℕ
@@ -237,3 +241,86 @@ before_all (suc i) r g = absurd (none r g)
   where
     none : (r : Coefficient) → slice_get [] i ≡ Some r → ⊥
     none r e = cc
+
+-- this clock is one, its tick 25728 is covered, and its time prints as 100.500000 with six places, whatever the constants:
+-- so that the way back speaks of something
+usual_is_clock : IsClock usual
+usual_is_clock = record {
+  face = record {
+    some_fields = lit≤ tt;
+    few_fields = lit≤ tt;
+    fields = fields;
+    tpm_small = lit≤ tt;
+    delimiter = inl refl;
+    some_partitions = lit≤ tt;
+    few_partitions = lit≤ tt;
+    partitions = partitions;
+    total_small = lit≤ tt;
+  };
+  some = lit< tt;
+  rates = λ i r g. rate i r g;
+  rising = λ i j r s l g h. rises i j r s l h;
+}
+  where
+    fields : All IsField usual_face.fields
+    fields zero d l = record { some = lit≤ tt; modulus = lit≤ tt; offset = lit≤ tt }
+    fields (suc zero) d l = record { some = lit≤ tt; modulus = lit≤ tt; offset = lit≤ tt }
+    fields (suc (suc k)) d l = absurd (omega (arith, l))
+
+    partitions : All IsPartition usual_face.partitions
+    partitions zero d l = record { ordered = lit≤ tt; small = lit≤ tt }
+    partitions (suc k) d l = absurd (omega (arith, l))
+
+    same : (t u : Coefficient) → Some t ≡ Some u → t ≡ u
+    same t u e = cc
+
+    none : (k : ℕ) (r : Coefficient) → slice_get [] k ≡ Some r → ⊥
+    none k r e = cc
+
+    rate : (i : ℕ) (r : Coefficient) → slice_get usual.records i ≡ Some r → 0 < r.rate
+    rate zero r g = subst (λ (s : Coefficient). 0 < s.rate) (same (coefficient 0 (pos 0) second) r g) (lit< tt)
+    rate (suc i) r g = absurd (none i r g)
+
+    rises : (i j : ℕ) (r s : Coefficient) → i < j → slice_get usual.records j ≡ Some s → (r.ticks < s.ticks) × (r.time <ℤ s.time)
+    rises i zero r s l h = absurd (omega (arith, l))
+    rises i (suc j) r s l h = absurd (none j s h)
+
+usual_covered : IsCovered usual 25728 0 (coefficient 0 (pos 0) second)
+usual_covered = record {
+  inside = record {
+    place = 0;
+    partition = partition 0 1099511627775;
+    of_tick = record { there = lit< tt; begun = lit≤ tt; last = λ later a b. absurd (omega (arith, a, b)) };
+    here = refl;
+    after_start = lit< tt;
+    before_end = lit< tt;
+  };
+  last = of_one (StartsBy 25728) (coefficient 0 (pos 0) second) (lit≤ tt);
+  after_start = lit≤ tt;
+  before_next = λ s e. absurd (none s e);
+}
+  where
+    none : (s : Coefficient) → slice_get [] 0 ≡ Some s → ⊥
+    none s e = cc
+
+usual_printed : (d : Deltet) → IsPrinted d usual 25728 6 false (pos 100500000)
+usual_printed d = record {
+  is_clock = usual_is_clock;
+  place = 0;
+  by = coefficient 0 (pos 0) second;
+  covered = usual_covered;
+  time = over (pos 201) 2;
+  time_is = record { positive = lit< tt };
+  is_time = usual_time;
+  long = record { le = le_z_yes tt };
+  prints = record {
+    low = over (pos 201) 2;
+    high = over (pos 201) 2;
+    low_is = record { positive = lit< tt };
+    high_is = record { positive = lit< tt };
+    at_least = record { le = le_z_yes tt };
+    at_most = record { le = le_z_yes tt };
+    low_cell = record { at_most = record { le = le_z_yes tt }; below_next = record { lt = lt_z_yes tt } };
+    high_cell = record { at_most = record { le = le_z_yes tt }; below_next = record { lt = lt_z_yes tt } };
+  };
+}

@@ -7,7 +7,7 @@ use Rattle.st_fraction.proofs.Order.{not_both_f}
 use Rattle.st_clock.specs.declared.coefficient.Coefficient.{Coefficient}
 use Rattle.st_clock.specs.declared.places.InForce.{InForce}
 use Rattle.st_clock.specs.Clock.{BeginsBy}
-use Rattle.st_clock.specs.InForce.{IsInForce}
+use Rattle.st_clock.specs.InForceSteps.{IsInForce}
 
 pub units_in_order : (a b : ℤ) → a ≤ℤ b → units a ≤ᶠ units b
 units_in_order a b h = record { le = le-mul_z a b (10 ^ 18) h }

@@ -12,7 +12,7 @@ use Rattle.st_ticks.specs.declared.variable.ClockVar.TheVariants.{Coefficients}
 use Rattle.st_ticks.specs.declared.variable.ClockWhy.TheVariants.{NotWhole, NotUnits, Range, Count, NotRising}
 use Rattle.st_clock.specs.declared.coefficient.Coefficient.{Coefficient}
 use Rattle.st_clock.specs.Parts.{IsTick, IsTime, IsRate, IsRecordAt, AreRecords, EachThird, HasNumber, HasUnits, HaveSteps, DoRise, KeepsCoefficients, GivesRecords, fault}
-use Rattle.st_clock.specs.Small.{IsSmall, AreSmall}
+use Rattle.st_clock.specs.SmallSteps.{IsSmall, AreSmall}
 use Rattle.st_clock.proofs.Lasts.{by_place}
 use Rattle.st_clock.proofs.PartLaws.{times_ten_is_one}
 

@@ -10,7 +10,7 @@ use Rattle.st_fraction.proofs.Scale.{at_self, le_at}
 use Rattle.st_fraction.proofs.Linear.{whole_at}
 use Rattle.st_fraction.proofs.Strict.{lt_at, le_lt_f, least_first, least_second}
 use Rattle.st_clock.specs.declared.coefficient.Coefficient.{Coefficient}
-use Rattle.st_clock.specs.Nearest.{IsFloorOrFar}
+use Rattle.st_clock.specs.NearestSteps.{IsFloorOrFar}
 use Rattle.st_clock.specs.Tick.{line_tick, capped}
 use Rattle.st_clock.proofs.Falls.{line_tick-den, half_more-den, half_more, add_half}
 use Rattle.st_clock.proofs.Half.{tick_at}

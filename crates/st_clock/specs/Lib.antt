@@ -1,11 +1,11 @@
 pub mod Clock
 pub mod Tick
 pub mod Time
-pub mod Small
+pub mod SmallSteps
 pub mod Covered
 pub mod Laws
-pub mod Nearest
-pub mod InForce
-pub mod Kept
+pub mod NearestSteps
+pub mod InForceSteps
+pub mod KeptSteps
 pub mod Parts
 pub mod Return

@@ -41,7 +41,7 @@ pub struct Clock {
 
 impl Model for Clock {
     ghost use Rattle.st_clock.specs.Clock.{Clock as Seen};
-    ghost use Rattle.st_clock.specs.Kept.{seen, IsSound};
+    ghost use Rattle.st_clock.specs.KeptSteps.{seen, IsSound};
 
     ghost Value = { Seen };
 

@@ -4,7 +4,7 @@ ghost use Rattle.std.specs.Prelude.{◌≡◌, ℕ, ◌+◌, ◌*◌, ◌/◌, �
 ghost use Rattle.st_fraction.specs.Fraction.{◌<ᶠ◌, ◌≈ᶠ◌, over, units, ◌+ᶠ◌};
 ghost use Rattle.st_dates.specs.Range.{range_end};
 ghost use Rattle.st_clock.specs.Clock.{line_time as time_on};
-ghost use Rattle.st_clock.specs.Small.{IsSmall};
+ghost use Rattle.st_clock.specs.SmallSteps.{IsSmall};
 ghost use Rattle.st_clock.specs.Time.{value_of, IsInRange};
 
 use crate::coefficient::Coefficient;

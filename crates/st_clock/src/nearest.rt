@@ -3,8 +3,8 @@
 ghost use Rattle.std.specs.Prelude.{◌≡◌, ◌+ℤ◌, ◌+◌, ◌*◌, ◌^◌, ◌≤◌, ◌<◌, ◌≤ℤ◌, ◌⊎◌, pos, unsigned_abs};
 ghost use Rattle.std.specs.Option.{ForSome};
 ghost use Rattle.st_fraction.specs.Fraction.{over, units, ◌+ᶠ◌};
-ghost use Rattle.st_clock.specs.Nearest.{IsFloorOrFar};
-ghost use Rattle.st_clock.specs.Small.{IsSmall};
+ghost use Rattle.st_clock.specs.NearestSteps.{IsFloorOrFar};
+ghost use Rattle.st_clock.specs.SmallSteps.{IsSmall};
 ghost use Rattle.st_clock.specs.Tick.{line_tick, capped};
 
 use crate::coefficient::Coefficient;

@@ -3,7 +3,7 @@
 ghost use Rattle.std.specs.Prelude.{◌≡◌, ℕ, ◌+◌, ◌-◌, ◌≤◌, ◌<◌, ◌≤ℤ◌, ◌<ℤ◌, length, int_le, nat_le, slice_get, Some, IfSome, IfNone};
 ghost use Rattle.st_fraction.specs.Fraction.{◌<ᶠ◌, units};
 ghost use Rattle.st_clock.specs.Clock.{AreRising, BeginsBy, StartsBy};
-ghost use Rattle.st_clock.specs.InForce.{IsInForce};
+ghost use Rattle.st_clock.specs.InForceSteps.{IsInForce};
 ghost use Rattle.st_clock.specs.declared.coefficient.Coefficient.{Coefficient as Record};
 
 use crate::coefficient::Coefficient;

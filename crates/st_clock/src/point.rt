@@ -1,5 +1,7 @@
 //! The time of a tick.
 
+use thiserror::Error;
+
 /// A time of a clock's scale: `units + part / of` units of 10^-18 s past J2000, where `part < of`.
 #[derive(Clone, Copy, Debug, PartialEq, Eq)]
 pub struct Point {
@@ -9,10 +11,12 @@ pub struct Point {
 }
 
 /// Why a tick has no time that is answered.
-#[derive(Clone, Copy, Debug, PartialEq, Eq)]
+#[derive(Clone, Copy, Debug, PartialEq, Eq, Error)]
 pub enum ClockRange {
     /// The tick is before the first record's.
+    #[error("before the first record")]
     Before,
     /// The time lies outside the range from `FIRST` to `LAST` of `st_dates`.
+    #[error("a time out of range")]
     OutOfRange,
 }

@@ -1,7 +1,7 @@
 //! A clock's records, from the values of its coefficients.
 
 ghost use Rattle.std.specs.Prelude.{◌≡◌, ◌↔◌, ◌+◌, ◌*◌, ◌%◌, ◌≤◌, ◌<◌, ◌⊎◌, ◌<ℤ◌, ℕ, ℤ, IsTrue, IfOk, IfErr, IfSome, IfNone, OnOk, [], ◌∷◌, ◌++◌, Ok, Err, Some, Result, length, slice_get};
-ghost use Rattle.st_clock.specs.Small.{AreSmall};
+ghost use Rattle.st_clock.specs.SmallSteps.{AreSmall};
 ghost use Rattle.st_clock.specs.Parts.{EachThird, HasNumber, HasUnits, IsTick, IsTime, IsRate, AreRecords, KeepsCoefficients, GivesRecords, HaveSteps, fault};
 ghost use Rattle.st_ticks.specs.declared.fault.FaceFault.TheVariants.{Bad, OutOfMemory as NoMemory};
 ghost use Rattle.st_ticks.specs.declared.variable.ClockVar.TheVariants.{Coefficients};

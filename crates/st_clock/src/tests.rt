@@ -1,7 +1,9 @@
 //! Worked clocks, as calls through `from_parts`, with answers that were computed apart from the program.
 
-use crate::{Clock, ClockRange, Point, Ticks};
+use crate::{Clock, ClockRange, Point, Ticks, TicksUndecided, check_system};
 use st_decimal::Dec;
+use st_enclosure::Enc;
+use st_scales::Scale;
 use st_ticks::{ClockFault, ClockVar, ClockWhy, Face, FaceFault};
 use std::alloc::Global;
 use std::test::Fail;
@@ -107,5 +109,117 @@ fn tells_what_is_before_and_behind(rt: HostRuntime) -> Result<(), Fail> {
         why: ClockWhy::NotRising,
     };
     assert!(rt; matches!(twice, Err(FaceFault::Bad(found)) if found == fault));
+    Ok(())
+}
+
+#[test]
+fn leaves_a_gap(rt: HostRuntime) -> Result<(), Fail> {
+    let end = [Dec {
+        digits: 1_099_511_627_775,
+        tens: 0,
+    }];
+    let early = Dec {
+        digits: 90,
+        tens: 0,
+    };
+    let Ok(gap) = clock(rt.alloc(), ONE, &end, &[NONE, NONE, ONE, COUNT, early, ONE]) else {
+        assert!(rt; false);
+        return Ok(());
+    };
+    assert_eq!(rt; gap.ticks_of(89_500 * MILLI), Ticks::At(22_912));
+    assert_eq!(rt; gap.ticks_of(90_000 * MILLI), Ticks::At(25_600));
+    let at = Point {
+        units: 93_750 * MILLI,
+        part: 0,
+        of: 256,
+    };
+    assert_eq!(rt; gap.time_of(24_000), Ok(at));
+    let lo = 93_750 * MILLI;
+    let one = gap.ticks_in(Enc { lo, hi: lo + 1 });
+    assert!(rt; matches!(one, Ok(Ticks::At(24_000))));
+    let two = gap.ticks_in(Enc { lo: lo - 4 * MILLI, hi: lo });
+    let ends = TicksUndecided {
+        lo: Ticks::At(23_999),
+        hi: Ticks::At(24_000),
+    };
+    assert!(rt; matches!(two, Err(found) if found == ends));
+    Ok(())
+}
+
+#[test]
+fn keeps_terrestrial_time(rt: HostRuntime) -> Result<(), Fail> {
+    let end = [Dec {
+        digits: 1_099_511_627_775,
+        tens: 0,
+    }];
+    let start = Dec {
+        digits: 536_500_869_184,
+        tens: -3,
+    };
+    let Ok(late) = clock(rt.alloc(), TWO, &end, &[ONE, start, ONE]) else {
+        assert!(rt; false);
+        return Ok(());
+    };
+    assert_eq!(rt; late.time_of(0), Err(ClockRange::Before));
+    let at = Point {
+        units: 536_587_269_684 * MILLI,
+        part: 0,
+        of: 256,
+    };
+    assert_eq!(rt; late.time_of(22_118_529), Ok(at));
+    assert!(rt; late.scale() == Scale::Tt);
+    assert_eq!(rt; late.face().ticks_per_count(), 256);
+    assert_eq!(rt; late.face().total(), 1_099_511_627_775);
+    assert_eq!(rt; check_system(&[ONE], &[]), Ok(Scale::Tdb));
+    let fault = ClockFault {
+        var: ClockVar::DataType,
+        why: ClockWhy::NotOne,
+    };
+    assert_eq!(rt; check_system(&[], &[TWO]), Err(fault));
+    Ok(())
+}
+
+#[test]
+fn counts_four_fields(rt: HostRuntime) -> Result<(), Fail> {
+    let moduli = [
+        Dec {
+            digits: 16_777_215,
+            tens: 0,
+        },
+        Dec {
+            digits: 91,
+            tens: 0,
+        },
+        Dec {
+            digits: 10,
+            tens: 0,
+        },
+        Dec { digits: 8, tens: 0 },
+    ];
+    let offsets = [NONE, NONE, NONE, NONE];
+    let four = [Dec { digits: 4, tens: 0 }];
+    let end = [Dec {
+        digits: 122_138_125_199,
+        tens: 0,
+    }];
+    let rate = Dec {
+        digits: 60_666,
+        tens: -3,
+    };
+    let face = Face::from_parts(rt.alloc(), &four, &moduli, &offsets, &[TWO], &[NONE], &end);
+    let Ok(face) = face else {
+        assert!(rt; false);
+        return Ok(());
+    };
+    let Ok(clock) = Clock::from_parts(rt.alloc(), face, &[ONE], &[], &[NONE, NONE, rate]) else {
+        assert!(rt; false);
+        return Ok(());
+    };
+    let at = Point {
+        units: 61_332_659_340_659_340_659,
+        part: 2_480,
+        of: 7_280,
+    };
+    assert_eq!(rt; clock.time_of(7_360), Ok(at));
     Ok(())
 }

@@ -2,6 +2,8 @@
 
 ghost use Rattle.std.specs.Prelude.{◌≡◌, ◌↔◌, IsTrue};
 
+use thiserror::Error;
+
 /// The tick of a time, with the times that have none.
 #[derive(Clone, Copy, Debug, PartialEq, Eq)]
 pub enum Ticks {
@@ -27,7 +29,8 @@ impl Ticks {
 }
 
 /// The ticks of the two ends of an enclosure, which are not one.
-#[derive(Clone, Copy, Debug, PartialEq, Eq)]
+#[derive(Clone, Copy, Debug, PartialEq, Eq, Error)]
+#[error("two ticks may be meant")]
 pub struct TicksUndecided {
     pub lo: Ticks,
     pub hi: Ticks,

@@ -4,7 +4,7 @@ use Rattle.std.proofs.lemmas.Int.{to_z-of_z}
 use Rattle.st_fraction.specs.Fraction.{IsFraction, units}
 use Rattle.st_clock.specs.declared.ticks.Ticks.TheVariants.{Before, At, After}
 use Rattle.st_clock.specs.Clock.{Clock, tpm, total, BeginsBy}
-use Rattle.st_clock.specs.Kept.{IsSound}
+use Rattle.st_clock.specs.KeptSteps.{IsSound}
 use Rattle.st_clock.specs.Tick.{TickOf}
 use Rattle.st_clock.proofs.Answered.{rising_of, force_rate, force_small, next_small, answer_at, answer_after, answer_before}
 use Rattle.st_clock.proofs.Falls.{tick_is_one}

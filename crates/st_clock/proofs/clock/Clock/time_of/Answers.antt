@@ -3,7 +3,7 @@ use Rattle.std.specs.Int.{w128}
 use Rattle.std.proofs.lemmas.Int.{ints, to_z-of_z}
 use Rattle.st_clock.specs.declared.point.ClockRange.TheVariants.{Before, OutOfRange}
 use Rattle.st_clock.specs.Clock.{Clock, tpm, StartsBy}
-use Rattle.st_clock.specs.Kept.{IsSound}
+use Rattle.st_clock.specs.KeptSteps.{IsSound}
 use Rattle.st_clock.specs.Time.{GivesTime}
 use Rattle.st_clock.proofs.Answered.{rising_of, force_rate, force_small, answer_time, answer_outside, answer_behind, answer_no_record, time_answer_is_one}
 use Rattle.st_clock.proofs.Faces.{tpm_some}
