@@ -13,7 +13,7 @@ use Rattle.st_ticks.specs.Face.{IsField, span, span_of_rest}
 use Rattle.st_ticks.specs.Reading.{count_of}
 use Rattle.st_ticks.specs.ReadingMachine.{from_offsets, are_small}
 use Rattle.st_ticks.specs.declared.field.Field.{Field}
-use Rattle.st_ticks.proofs.Cuts.{head_passes, tail_passes}
+use Rattle.st_text.proofs.Logic.{and-left, and-right}
 use Rattle.st_ticks.proofs.FieldLaws.{field_here, fields_there}
 
 abbrev pub no_field : Field
@@ -66,8 +66,8 @@ le_passed a b h = grind (arith, nat_tests)
 pub offset_at : (fs : List Field) (vs : List ℕ) (i : ℕ) → from_offsets fs vs ≡ true → i < length fs → i < length vs → (get_or fs i no_field).offset ≤ get_or vs i 0
 offset_at [] vs i t h k = absurd (omega arith)
 offset_at (f ∷ fs) [] i t h k = absurd (omega arith)
-offset_at (f ∷ fs) (v ∷ vs) zero t h k = le_passed f.offset v (head_passes (nat_le f.offset v) (from_offsets fs vs) t)
-offset_at (f ∷ fs) (v ∷ vs) (suc i) t h k = offset_at fs vs i (tail_passes (nat_le f.offset v) (from_offsets fs vs) t) (omega arith) (omega arith)
+offset_at (f ∷ fs) (v ∷ vs) zero t h k = le_passed f.offset v (and-left (nat_le f.offset v) (from_offsets fs vs) t)
+offset_at (f ∷ fs) (v ∷ vs) (suc i) t h k = offset_at fs vs i (and-right (nat_le f.offset v) (from_offsets fs vs) t) (omega arith) (omega arith)
 
 pub small_at : (vs : List ℕ) (i : ℕ) → are_small vs ≡ true → i < length vs → get_or vs i 0 ≤ 2_000_000_000_000_000_000
 small_at vs i t k =

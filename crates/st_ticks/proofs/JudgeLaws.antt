@@ -18,7 +18,7 @@ use Rattle.st_ticks.specs.declared.fault.ClockTextFault.{ClockTextFault}
 use Rattle.st_ticks.specs.declared.fault.ClockTextFault.TheVariants.{TooManyFields, NoPartition, FieldBelowOffset, TooLarge, NotInPartition}
 use Rattle.st_ticks.specs.declared.field.Field.{Field}
 use Rattle.st_ticks.specs.declared.field.Partition.{Partition}
-use Rattle.st_ticks.proofs.Cuts.{head_passes, tail_passes}
+use Rattle.st_text.proofs.Logic.{and-left, and-right}
 use Rattle.st_ticks.proofs.FieldLaws.{field_here, fields_there}
 use Rattle.st_ticks.proofs.PartsLaws.{parts_spelled, spelled_parts}
 use Rattle.st_ticks.proofs.ReadingLaws.{Outcome, reads_by}
@@ -45,8 +45,8 @@ pub from_offsets_yes : (fs : List Field) (ds : List (List ℕ)) → from_offsets
 from_offsets_yes [] ds h = tt
 from_offsets_yes (f ∷ fs) [] h = tt
 from_offsets_yes (f ∷ fs) (d ∷ ds) h = (
-  capped_le f.offset (number_of d) (head_passes (nat_le f.offset (capped d)) (from_offsets fs (capped_values ds)) h),
-  from_offsets_yes fs ds (tail_passes (nat_le f.offset (capped d)) (from_offsets fs (capped_values ds)) h),
+  capped_le f.offset (number_of d) (and-left (nat_le f.offset (capped d)) (from_offsets fs (capped_values ds)) h),
+  from_offsets_yes fs ds (and-right (nat_le f.offset (capped d)) (from_offsets fs (capped_values ds)) h),
 )
 
 pub from_offsets_sure : (fs : List Field) (ds : List (List ℕ)) → All IsField fs → AreFromOffsets fs (map number_of ds) → from_offsets fs (capped_values ds) ≡ true
@@ -72,8 +72,8 @@ pub small_yes : (ds : List (List ℕ)) → are_small (capped_values ds) ≡ true
 small_yes [] h = All-nil IsSmall
 small_yes (d ∷ ds) h =
     All-cons IsSmall (number_of d) (map number_of ds)
-    (small_capped (number_of d) (head_passes (nat_le (capped d) 2_000_000_000_000_000_000) (are_small (capped_values ds)) h))
-    (small_yes ds (tail_passes (nat_le (capped d) 2_000_000_000_000_000_000) (are_small (capped_values ds)) h))
+    (small_capped (number_of d) (and-left (nat_le (capped d) 2_000_000_000_000_000_000) (are_small (capped_values ds)) h))
+    (small_yes ds (and-right (nat_le (capped d) 2_000_000_000_000_000_000) (are_small (capped_values ds)) h))
 
 pub small_sure : (ds : List (List ℕ)) → All IsSmall (map number_of ds) → are_small (capped_values ds) ≡ true
 small_sure [] h = refl

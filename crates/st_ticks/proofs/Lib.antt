@@ -1,6 +1,5 @@
 pub mod CanonicalLaws
 pub mod CountLaws
-pub mod Cuts
 pub mod FaceLaws
 pub mod FieldLaws
 pub mod FirstLaws

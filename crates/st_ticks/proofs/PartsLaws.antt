@@ -3,11 +3,14 @@ use Rattle.std.proofs.Common.{◌≡◌, ℕ, ◌<◌, true, false, ◌==◌, in
 use Rattle.std.proofs.lemmas.Bool.{cases_Bool}
 use Rattle.std.proofs.lemmas.Bool.Decides.{nat_tests}
 use Rattle.std.proofs.lemmas.Option.{some_pair_parts}
+use Rattle.std.specs.Char.{is_ascii_digit}
 use Rattle.st_text.specs.Bytes.{are_blanks, are_digits}
 use Rattle.st_text.specs.Lines.{skip_blanks}
+use Rattle.st_text.specs.Scan.{leading_digits, past_digits}
+use Rattle.st_text.proofs.Logic.{bound}
+use Rattle.st_text.proofs.Runs.{Stops, joined, leading_passes, leading-at, behind-at}
 use Rattle.st_ticks.specs.ClockText.{IsRun, Parts, SpellsFields, SpellsPartition, Spells}
-use Rattle.st_ticks.specs.TextMachine.{◌>>=◌, digits, past_digits, past_slash, runs, partition_in, with_fields, parts_after, parts_of}
-use Rattle.st_ticks.proofs.Cuts.{Stops, joined, digits_are, digits-at, past-at}
+use Rattle.st_ticks.specs.TextMachine.{past_slash, runs, partition_in, with_fields, parts_after, parts_of}
 use Rattle.st_ticks.proofs.TextLaws.{skipped, Starts, skip-at, starts_no_blank, starts_more, run_starts, fields_start, Fielded, fielded, runs_at, slash_behind, no_partition_fields}
 
 some_digits : (d : List ℕ) → (length d == 0) ≡ false → 0 < length d
@@ -37,11 +40,7 @@ record Partitioned (t d u : List ℕ) : Type 0 where
   spells : SpellsPartition (Some d) text
   whole : t ≡ text ++ u
 
-bound : {A B : Type 0} (o : Option A) (f : A → Option B) (b : B) → (o >>= f) ≡ Some b → (a : A) × (o ≡ Some a) × (f a ≡ Some b)
-bound None f b e = absurd (cc)
-bound (Some a) f b e = (a, refl, e)
-
-partitioned_at : (t d u : List ℕ) → 0 < length (digits t) → past_slash (skip_blanks (past_digits t)) ≡ Some u → digits t ≡ d → Partitioned t d u
+partitioned_at : (t d u : List ℕ) → 0 < length (leading_digits t) → past_slash (skip_blanks (past_digits t)) ≡ Some u → leading_digits t ≡ d → Partitioned t d u
 partitioned_at t d u some e same =
     let cut = skipped (past_digits t) in
     let s = slash_parts (skip_blanks (past_digits t)) u e in
@@ -51,12 +50,12 @@ partitioned_at t d u some e same =
         cut.0,
         s.0,
         cut.0 ++ (47 ∷ s.0),
-        record { digits = ap are_digits (sym same) ∙ digits_are t; some = subst (λ (x : List ℕ). 0 < length x) same some },
+        record { digits = ap are_digits (sym same) ∙ leading_passes is_ascii_digit t; some = subst (λ (x : List ℕ). 0 < length x) same some },
         record { blanks_before = cut.1; blanks_after = s.1; whole = refl },
         refl,
       );
       whole =
-          sym (joined t) ∙ ap (λ (x : List ℕ). x ++ past_digits t) same
+          sym (joined is_ascii_digit t) ∙ ap (λ (x : List ℕ). x ++ past_digits t) same
           ∙ ap (λ (x : List ℕ). d ++ x) (cut.2 ∙ ap (λ (x : List ℕ). cut.0 ++ x) s.2)
           ∙ ap (λ (x : List ℕ). d ++ x) (sym (append_assoc cut.0 (47 ∷ s.0) u)) ∙ sym (append_assoc d (cut.0 ++ (47 ∷ s.0)) u);
     }
@@ -64,19 +63,19 @@ partitioned_at t d u some e same =
 partitioned : (t d u : List ℕ) → partition_in t ≡ Some (d, u) → Partitioned t d u
 unfolding partition_in
 partitioned t d u e =
-    elim (cases_Bool (length (digits t) == 0)) [
+    elim (cases_Bool (length (leading_digits t) == 0)) [
       | inl z ↦ absurd (let none : ◌≡◌ {A = Option (List ℕ × List ℕ)} None (Some (d, u)) = rw z at e in cc)
       | inr z ↦
-          let b = bound (past_slash (skip_blanks (past_digits t))) (λ rest. Some (digits t, rest)) (d, u) (rw z at e) in
-          let p = some_pair_parts (digits t) d b.0 u b.2 in
-          partitioned_at t d u (some_digits (digits t) z) (b.1 ∙ ap (λ (x : List ℕ). Some x) p.1) p.0
+          let b = bound (past_slash (skip_blanks (past_digits t))) (λ rest. Some (leading_digits t, rest)) (d, u) (rw z at e) in
+          let p = some_pair_parts (leading_digits t) d b.0 u b.2 in
+          partitioned_at t d u (some_digits (leading_digits t) z) (b.1 ∙ ap (λ (x : List ℕ). Some x) p.1) p.0
     ]
 
-partition_at : (d slash t u : List ℕ) → IsRun d → Stops slash → past_slash (skip_blanks slash) ≡ Some u → t ≡ d ++ slash → partition_in t ≡ Some (d, u)
+partition_at : (d slash t u : List ℕ) → IsRun d → Stops is_ascii_digit slash → past_slash (skip_blanks slash) ≡ Some u → t ≡ d ++ slash → partition_in t ≡ Some (d, u)
 unfolding partition_in
 partition_at d slash t u h s e f =
-    let cut : digits t ≡ d = ap digits f ∙ digits-at d slash h.digits s in
-    let behind : past_digits t ≡ slash = ap past_digits f ∙ past-at d slash h.digits s in
+    let cut : leading_digits t ≡ d = ap leading_digits f ∙ leading-at is_ascii_digit d slash h.digits s in
+    let behind : past_digits t ≡ slash = ap past_digits f ∙ behind-at is_ascii_digit d slash h.digits s in
     let some : (length d == 0) ≡ false = no_digits (length d) h.some in
     rw (cut, some, behind, e) refl
 
@@ -140,7 +139,7 @@ read_alone front body back text fields f b h w =
     rw (skips, no_partition_fields fields body back h b, runs_at fields body back h b) refl
 
 read_with : (front d slash body back text : List ℕ) (fields : List (List ℕ)) → are_blanks front ≡ true → are_blanks back ≡ true → IsRun d
-    → Stops slash → past_slash (skip_blanks slash) ≡ Some (body ++ back) → SpellsFields fields body
+    → Stops is_ascii_digit slash → past_slash (skip_blanks slash) ≡ Some (body ++ back) → SpellsFields fields body
     → text ≡ front ++ (d ++ slash) → parts_of text ≡ Some (record { partition = Some d; fields = fields })
 unfolding parts_of
 read_with front d slash body back text fields f b r s e h w =

@@ -2,11 +2,13 @@
 use Rattle.std.proofs.Common.{◌≡◌, ℕ, zero, suc, ◌+◌, ◌<◌, ◌≤◌, true, false, ◌==◌, inl, inr, refl, sym, ap, ◌∙◌, arith, Option, Some, None, List, [], ◌∷◌, ◌++◌, length, append_assoc, length-append}
 use Rattle.std.proofs.lemmas.Bool.{cases_Bool}
 use Rattle.std.proofs.lemmas.Bool.Decides.{nat_tests}
+use Rattle.std.specs.Char.{is_ascii_digit}
 use Rattle.st_text.specs.Bytes.{is_blank, are_blanks}
 use Rattle.st_text.specs.Lines.{skip_blanks}
+use Rattle.st_text.specs.Scan.{leading, leading_digits, past_digits}
+use Rattle.st_text.proofs.Runs.{joined}
 use Rattle.st_ticks.specs.ClockText.{is_mark}
-use Rattle.st_ticks.specs.TextMachine.{digits, past_digits, past_mark, past_gap, past_separator, Next, stop, last, more, next_before, next_of, onto, runs_from, runs_of, runs}
-use Rattle.st_ticks.proofs.Cuts.{joined}
+use Rattle.st_ticks.specs.TextMachine.{past_mark, past_gap, past_separator, Next, stop, last, more, next_before, next_of, onto, runs_from, runs_of, runs}
 
 -- fields before those that are read
 abbrev pub ahead : List (List ℕ) → Option (List (List ℕ)) → Option (List (List ℕ))
@@ -64,12 +66,12 @@ separator_shorter t u e = past_shorter t u (separator_is t u e)
 -- what the next field is, by its three tests
 pub record IsLast (t d : List ℕ) : Type 0 where
   pub some : 0 < length d
-  pub field : d ≡ digits t
+  pub field : d ≡ leading_digits t
   pub blanks : are_blanks (past_digits t) ≡ true
 
 pub record IsMore (t d u : List ℕ) : Type 0 where
   pub some : 0 < length d
-  pub field : d ≡ digits t
+  pub field : d ≡ leading_digits t
   pub no_blanks : are_blanks (past_digits t) ≡ false
   pub rest : past_separator (past_digits t) ≡ Some u
 
@@ -82,23 +84,23 @@ no_digits n h = grind (arith, nat_tests)
 pub next_last : (t d : List ℕ) → IsLast t d → next_of t ≡ last d
 unfolding next_of
 next_last t d h =
-    let some : (length (digits t) == 0) ≡ false = rw h.field at (no_digits (length d) h.some) in
+    let some : (length (leading_digits t) == 0) ≡ false = rw h.field at (no_digits (length d) h.some) in
     rw (some, h.blanks, h.field) refl
 
 pub next_more : (t d u : List ℕ) → IsMore t d u → next_of t ≡ more d u
 unfolding next_of
 next_more t d u h =
-    let some : (length (digits t) == 0) ≡ false = rw h.field at (no_digits (length d) h.some) in
+    let some : (length (leading_digits t) == 0) ≡ false = rw h.field at (no_digits (length d) h.some) in
     rw (some, h.no_blanks, h.rest, h.field) refl
 
-pub next_stop : (t : List ℕ) → length (digits t) ≡ 0 → next_of t ≡ stop
+pub next_stop : (t : List ℕ) → length (leading_digits t) ≡ 0 → next_of t ≡ stop
 unfolding next_of
 next_stop t h = rw h refl
 
 pub next_unseparated : (t : List ℕ) → are_blanks (past_digits t) ≡ false → past_separator (past_digits t) ≡ None → next_of t ≡ stop
 unfolding next_of
 next_unseparated t h e =
-    elim (cases_Bool (length (digits t) == 0)) [ inl z ↦ rw z refl | inr z ↦ rw (z, h, e) refl ]
+    elim (cases_Bool (length (leading_digits t) == 0)) [ inl z ↦ rw z refl | inr z ↦ rw (z, h, e) refl ]
 
 last_at : (t d f : List ℕ) (o : Option (List ℕ)) → next_before f o ≡ last d → ⊥
 last_at t d f None e = cc
@@ -110,13 +112,13 @@ same_last f d e = cc
 pub is_last : (t d : List ℕ) → next_of t ≡ last d → IsLast t d
 unfolding next_of
 is_last t d e =
-    elim (cases_Bool (length (digits t) == 0)) [
+    elim (cases_Bool (length (leading_digits t) == 0)) [
       | inl z ↦ absurd (let no : stop ≡ last d = rw z at e in cc)
       | inr z ↦ elim (cases_Bool (are_blanks (past_digits t))) [
         | inl h ↦
-            let same = same_last (digits t) d (rw (z, h) at e) in
-            record { some = rw (sym same) at (some_digits (digits t) z); field = same; blanks = h }
-        | inr h ↦ absurd (last_at t d (digits t) (past_separator (past_digits t)) (rw (z, h) at e))
+            let same = same_last (leading_digits t) d (rw (z, h) at e) in
+            record { some = rw (sym same) at (some_digits (leading_digits t) z); field = same; blanks = h }
+        | inr h ↦ absurd (last_at t d (leading_digits t) (past_separator (past_digits t)) (rw (z, h) at e))
       ]
     ]
 
@@ -127,18 +129,18 @@ more_at f d u (Some v) e = (cc, cc)
 pub is_more : (t d u : List ℕ) → next_of t ≡ more d u → IsMore t d u
 unfolding next_of
 is_more t d u e =
-    elim (cases_Bool (length (digits t) == 0)) [
+    elim (cases_Bool (length (leading_digits t) == 0)) [
       | inl z ↦ absurd (let no : stop ≡ more d u = rw z at e in cc)
       | inr z ↦ elim (cases_Bool (are_blanks (past_digits t))) [
-        | inl h ↦ absurd (let no : last (digits t) ≡ more d u = rw (z, h) at e in cc)
+        | inl h ↦ absurd (let no : last (leading_digits t) ≡ more d u = rw (z, h) at e in cc)
         | inr h ↦
-            let same = more_at (digits t) d u (past_separator (past_digits t)) (rw (z, h) at e) in
-            record { some = rw (sym same.0) at (some_digits (digits t) z); field = same.0; no_blanks = h; rest = same.1 }
+            let same = more_at (leading_digits t) d u (past_separator (past_digits t)) (rw (z, h) at e) in
+            record { some = rw (sym same.0) at (some_digits (leading_digits t) z); field = same.0; no_blanks = h; rest = same.1 }
       ]
     ]
 
-past_digits_shorter : (t : List ℕ) → length (digits t) + length (past_digits t) ≡ length t
-past_digits_shorter t = sym (length-append (digits t) (past_digits t)) ∙ ap (λ (x : List ℕ). length x) (joined t)
+past_digits_shorter : (t : List ℕ) → length (leading_digits t) + length (past_digits t) ≡ length t
+past_digits_shorter t = sym (length-append (leading_digits t) (past_digits t)) ∙ ap (λ (x : List ℕ). length x) (joined is_ascii_digit t)
 
 pub more_shorter : (t d u : List ℕ) → IsMore t d u → length u < length t
 more_shorter t d u h = omega (arith, separator_shorter (past_digits t) u h.rest, past_digits_shorter t)
@@ -151,7 +153,7 @@ enough_at m n t (last d) same e = refl
 enough_at m n t (more d u) same e = ap (onto d) (same u (more_shorter t d u (is_more t d u e)))
 
 nothing_next : next_of [] ≡ stop
-unfolding next_of digits
+unfolding next_of leading
 nothing_next = refl
 
 nothing_from : (read : List ℕ → Option (List (List ℕ))) (x : Next) → x ≡ stop → None ≡ runs_from read x
@@ -184,7 +186,7 @@ turned (suc n) t h e =
 pub runs_turn : (t : List ℕ) → 0 < length t → runs t ≡ runs_from runs (next_of t)
 runs_turn t h = turned (length t) t h refl
 
-some_bytes : (t d : List ℕ) → 0 < length d → d ≡ digits t → 0 < length t
+some_bytes : (t d : List ℕ) → 0 < length d → d ≡ leading_digits t → 0 < length t
 some_bytes t d h e = omega (arith, past_digits_shorter t, ap (λ (x : List ℕ). length x) e)
 
 pub runs_last : (t d : List ℕ) → IsLast t d → runs t ≡ Some (d ∷ [])

@@ -7,9 +7,11 @@ use Rattle.std.proofs.lemmas.List.Folds.{list_all-append}
 use Rattle.std.specs.Char.{is_ascii_digit}
 use Rattle.st_text.specs.Bytes.{is_blank, are_blanks, are_digits}
 use Rattle.st_text.specs.Lines.{skip_blanks}
+use Rattle.st_text.specs.Scan.{leading_digits, past_digits}
+use Rattle.st_text.proofs.Logic.{and-left, and-right}
+use Rattle.st_text.proofs.Runs.{Stops, joined, leading_passes, leading-at, behind-at}
 use Rattle.st_ticks.specs.ClockText.{is_mark, IsRun, IsGap, IsSeparator, SpellsFields}
-use Rattle.st_ticks.specs.TextMachine.{digits, past_digits, past_mark, past_gap, past_slash, past_separator, Next, stop, last, more, next_of, onto, runs_from, runs_of, runs, partition_in}
-use Rattle.st_ticks.proofs.Cuts.{Stops, joined, digits_are, digits-at, past-at, head_passes, tail_passes}
+use Rattle.st_ticks.specs.TextMachine.{past_mark, past_gap, past_slash, past_separator, Next, stop, last, more, next_of, onto, runs_from, runs_of, runs, partition_in}
 use Rattle.st_ticks.proofs.RunLaws.{Past, by_mark, by_gap, separator_is, IsLast, IsMore, is_last, is_more, runs_last, runs_more}
 
 -- bytes of one kind are of no other
@@ -54,11 +56,11 @@ skip-stop (b ∷ t) h = rw h refl
 
 pub skip-at : (front t : List ℕ) → are_blanks front ≡ true → NoBlank t → skip_blanks (front ++ t) ≡ t
 skip-at [] t h s = skip-stop t s
-skip-at (b ∷ front) t h s = rw (head_passes (is_blank b) (are_blanks front) h) (skip-at front t (tail_passes (is_blank b) (are_blanks front) h) s)
+skip-at (b ∷ front) t h s = rw (and-left (is_blank b) (are_blanks front) h) (skip-at front t (and-right (is_blank b) (are_blanks front) h) s)
 
 pub skip_all : (t : List ℕ) → are_blanks t ≡ true → skip_blanks t ≡ []
 skip_all [] h = refl
-skip_all (b ∷ t) h = rw (head_passes (is_blank b) (are_blanks t) h) (skip_all t (tail_passes (is_blank b) (are_blanks t) h))
+skip_all (b ∷ t) h = rw (and-left (is_blank b) (are_blanks t) h) (skip_all t (and-right (is_blank b) (are_blanks t) h))
 
 -- a text whose first byte is a digit
 abbrev pub Starts : List ℕ → Type 0
@@ -71,7 +73,7 @@ starts_no_blank (b ∷ t) h = digit_no_blank b h
 
 pub run_starts : (d t : List ℕ) → IsRun d → Starts (d ++ t)
 run_starts [] t h = absurd (let some = h.some in omega arith)
-run_starts (b ∷ d) t h = head_passes (is_ascii_digit b) (are_digits d) h.digits
+run_starts (b ∷ d) t h = and-left (is_ascii_digit b) (are_digits d) h.digits
 
 pub starts_more : (t u : List ℕ) → Starts t → Starts (t ++ u)
 starts_more [] u h = absurd h
@@ -147,23 +149,23 @@ gap_at : (gap u : List ℕ) → IsGap gap → Starts u → past_gap (gap ++ u) �
 unfolding past_gap
 gap_at [] u h s = absurd (let some = h.some in omega arith)
 gap_at (b ∷ gap) u h s =
-    rw (head_passes (is_blank b) (are_blanks gap) h.blanks)
-    (ap (λ (v : List ℕ). Some v) (skip-at gap u (tail_passes (is_blank b) (are_blanks gap) h.blanks) (starts_no_blank u s)))
+    rw (and-left (is_blank b) (are_blanks gap) h.blanks)
+    (ap (λ (v : List ℕ). Some v) (skip-at gap u (and-right (is_blank b) (are_blanks gap) h.blanks) (starts_no_blank u s)))
 
 -- a separator before a digit: it begins with no digit, it is no blanks to the end, and it is passed
 record Passes (t u : List ℕ) : Type 0 where
-  stops : Stops t
+  stops : Stops is_ascii_digit t
   ends_not : are_blanks t ≡ false
   passed : past_separator t ≡ Some u
   no_slash : past_slash (skip_blanks t) ≡ None
 
-blanks_stop : (t u : List ℕ) → are_blanks t ≡ true → Stops u → Stops (t ++ u)
+blanks_stop : (t u : List ℕ) → are_blanks t ≡ true → Stops is_ascii_digit u → Stops is_ascii_digit (t ++ u)
 blanks_stop [] u h s = s
-blanks_stop (b ∷ t) u h s = blank_no_digit b (head_passes (is_blank b) (are_blanks t) h)
+blanks_stop (b ∷ t) u h s = blank_no_digit b (and-left (is_blank b) (are_blanks t) h)
 
-some_blanks_stop : (t u : List ℕ) → IsGap t → Stops (t ++ u)
+some_blanks_stop : (t u : List ℕ) → IsGap t → Stops is_ascii_digit (t ++ u)
 some_blanks_stop [] u h = absurd (let some = h.some in omega arith)
-some_blanks_stop (b ∷ t) u h = blank_no_digit b (head_passes (is_blank b) (are_blanks t) h.blanks)
+some_blanks_stop (b ∷ t) u h = blank_no_digit b (and-left (is_blank b) (are_blanks t) h.blanks)
 
 not_all : (t u : List ℕ) → are_blanks u ≡ false → are_blanks (t ++ u) ≡ false
 not_all t u h = list_all-append is_blank t u ∙ rw h (no_and (are_blanks t))
@@ -226,29 +228,29 @@ separator_passes separator u (inr (before, after, mark, m, h)) s =
     (mark_passes before after u mark h.blanks_before h.blanks_after m s)
 
 -- the last field, and a field before others
-cut_run : (t d : List ℕ) → 0 < length d → d ≡ digits t → IsRun d × (t ≡ d ++ past_digits t)
+cut_run : (t d : List ℕ) → 0 < length d → d ≡ leading_digits t → IsRun d × (t ≡ d ++ past_digits t)
 cut_run t d s e = (
-  record { digits = ap are_digits e ∙ digits_are t; some = s },
-  sym (joined t) ∙ ap (λ (x : List ℕ). x ++ past_digits t) (sym e),
+  record { digits = ap are_digits e ∙ leading_passes is_ascii_digit t; some = s },
+  sym (joined is_ascii_digit t) ∙ ap (λ (x : List ℕ). x ++ past_digits t) (sym e),
 )
 
 last_at : (d back : List ℕ) → IsRun d → are_blanks back ≡ true → IsLast (d ++ back) d
 last_at d back h b = record {
   some = h.some;
-  field = sym (digits-at d back h.digits (stops_at back b));
-  blanks = ap are_blanks (past-at d back h.digits (stops_at back b)) ∙ b;
+  field = sym (leading-at is_ascii_digit d back h.digits (stops_at back b));
+  blanks = ap are_blanks (behind-at is_ascii_digit d back h.digits (stops_at back b)) ∙ b;
 }
   where
-    stops_at : (t : List ℕ) → are_blanks t ≡ true → Stops t
+    stops_at : (t : List ℕ) → are_blanks t ≡ true → Stops is_ascii_digit t
     stops_at [] e = tt
-    stops_at (c ∷ t) e = blank_no_digit c (head_passes (is_blank c) (are_blanks t) e)
+    stops_at (c ∷ t) e = blank_no_digit c (and-left (is_blank c) (are_blanks t) e)
 
 more_at : (d t u : List ℕ) → IsRun d → Passes t u → IsMore (d ++ t) d u
 more_at d t u h p = record {
   some = h.some;
-  field = sym (digits-at d t h.digits p.stops);
-  no_blanks = ap are_blanks (past-at d t h.digits p.stops) ∙ p.ends_not;
-  rest = ap past_separator (past-at d t h.digits p.stops) ∙ p.passed;
+  field = sym (leading-at is_ascii_digit d t h.digits p.stops);
+  no_blanks = ap are_blanks (behind-at is_ascii_digit d t h.digits p.stops) ∙ p.ends_not;
+  rest = ap past_separator (behind-at is_ascii_digit d t h.digits p.stops) ∙ p.passed;
 }
 
 -- a text of fields and of blanks behind them
@@ -319,18 +321,18 @@ unfolding past_slash
 slash_at after u a s = ap (λ (v : List ℕ). Some v) (skip-at after u a (starts_no_blank u s))
 
 pub slash_behind : (before after u : List ℕ) → are_blanks before ≡ true → are_blanks after ≡ true → Starts u
-    → Stops (before ++ (47 ∷ (after ++ u))) × (past_slash (skip_blanks (before ++ (47 ∷ (after ++ u)))) ≡ Some u)
+    → Stops is_ascii_digit (before ++ (47 ∷ (after ++ u))) × (past_slash (skip_blanks (before ++ (47 ∷ (after ++ u)))) ≡ Some u)
 slash_behind before after u b a s = (
   blanks_stop before (47 ∷ (after ++ u)) b refl,
   ap past_slash (skip-at before (47 ∷ (after ++ u)) b refl) ∙ slash_at after u a s,
 )
 
 -- a text of fields begins with no partition
-no_partition_at : (d t : List ℕ) → IsRun d → Stops t → past_slash (skip_blanks t) ≡ None → partition_in (d ++ t) ≡ None
+no_partition_at : (d t : List ℕ) → IsRun d → Stops is_ascii_digit t → past_slash (skip_blanks t) ≡ None → partition_in (d ++ t) ≡ None
 unfolding partition_in
 no_partition_at d t h s e =
-    let cut : digits (d ++ t) ≡ d = digits-at d t h.digits s in
-    let behind : past_digits (d ++ t) ≡ t = past-at d t h.digits s in
+    let cut : leading_digits (d ++ t) ≡ d = leading-at is_ascii_digit d t h.digits s in
+    let behind : past_digits (d ++ t) ≡ t = behind-at is_ascii_digit d t h.digits s in
     elim (cases_Bool (length d == 0)) [ inl z ↦ rw (cut, z) refl | inr z ↦ rw (cut, z, behind, e) refl ]
 
 slash_at_end : past_slash [] ≡ None
@@ -343,9 +345,9 @@ no_partition_fields (d ∷ []) body back h b =
     ap (λ (t : List ℕ). partition_in (t ++ back)) h.1
     ∙ no_partition_at d back h.0 (end_stops back b) (ap past_slash (skip_all back b) ∙ slash_at_end)
   where
-    end_stops : (t : List ℕ) → are_blanks t ≡ true → Stops t
+    end_stops : (t : List ℕ) → are_blanks t ≡ true → Stops is_ascii_digit t
     end_stops [] e = tt
-    end_stops (c ∷ t) e = blank_no_digit c (head_passes (is_blank c) (are_blanks t) e)
+    end_stops (c ∷ t) e = blank_no_digit c (and-left (is_blank c) (are_blanks t) e)
 no_partition_fields (d ∷ e ∷ others) body back h b =
     let u : List ℕ = h.1 ++ back in
     let starts : Starts u = starts_more h.1 back (fields_start (e ∷ others) h.1 h.4) in

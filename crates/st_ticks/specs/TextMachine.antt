@@ -1,24 +1,9 @@
 -- How a clock string is read: its partition, then one field after the other, each with the separator behind it.
 use Rattle.std.specs.Prelude.{ℕ, zero, suc, ◌==◌, List, [], ◌∷◌, length, Option, Some, None, if◌then◌else◌}
-use Rattle.std.specs.Char.{is_ascii_digit}
 use Rattle.st_text.specs.Bytes.{is_blank, are_blanks}
 use Rattle.st_text.specs.Lines.{skip_blanks}
+use Rattle.st_text.specs.Scan.{◌>>=◌, leading_digits, past_digits}
 use Rattle.st_ticks.specs.ClockText.{is_mark, Parts}
-
-infixl 10 ◌>>=◌
--- one step and then the next, where the first has an answer
-abbrev pub ◌>>=◌ : {A B : Type 0} → Option A → (A → Option B) → Option B
-None >>= f = None
-(Some x) >>= f = f x
-
--- the digits with which a text begins, and what is behind them
-unfoldable pub digits : List ℕ → List ℕ
-digits [] = []
-digits (b ∷ t) = if is_ascii_digit b then b ∷ digits t else []
-
-unfoldable pub past_digits : List ℕ → List ℕ
-past_digits [] = []
-past_digits (b ∷ t) = if is_ascii_digit b then past_digits t else b ∷ t
 
 -- what is behind a mark, and the blanks after it, with which a text begins
 unfoldable pub past_mark : List ℕ → Option (List ℕ)
@@ -47,9 +32,9 @@ next_before field (Some rest) = more field rest
 
 unfoldable pub next_of : List ℕ → Next
 next_of text =
-    if length (digits text) == 0 then stop
-    else (if are_blanks (past_digits text) then last (digits text)
-    else next_before (digits text) (past_separator (past_digits text)))
+    if length (leading_digits text) == 0 then stop
+    else (if are_blanks (past_digits text) then last (leading_digits text)
+    else next_before (leading_digits text) (past_separator (past_digits text)))
 
 -- a field before others
 abbrev pub onto : List ℕ → Option (List (List ℕ)) → Option (List (List ℕ))
@@ -78,8 +63,8 @@ past_slash (b ∷ t) = if b == 47 then Some (skip_blanks t) else None
 -- the digits of the partition with which a text begins, and what is behind its `/`
 unfoldable pub partition_in : List ℕ → Option (List ℕ × List ℕ)
 partition_in text =
-    if length (digits text) == 0 then None
-    else past_slash (skip_blanks (past_digits text)) >>= λ rest. Some (digits text, rest)
+    if length (leading_digits text) == 0 then None
+    else past_slash (skip_blanks (past_digits text)) >>= λ rest. Some (leading_digits text, rest)
 
 abbrev pub with_fields : Option (List ℕ) → Option (List (List ℕ)) → Option Parts
 with_fields partition None = None

@@ -1,32 +1,11 @@
 //! Cutting a clock string from the left.
 
-ghost use Rattle.std.specs.Prelude.{◌≡◌, ◌≤◌, ◌<◌, length, IsTrue, IfSome, MatchOption, option_copied};
-ghost use Rattle.std.specs.Char.{is_ascii_digit};
-ghost use Rattle.std.specs.List.{prefix_len};
+ghost use Rattle.std.specs.Prelude.{◌≡◌, IsTrue, IfSome, MatchOption, option_copied};
 ghost use Rattle.st_text.specs.Bytes as bytes;
 ghost use Rattle.st_ticks.specs.ClockText as text;
 ghost use Rattle.st_ticks.specs.TextMachine as machine;
 
-use st_text::{is_blank, skip_blanks};
-
-/// The digits with which a text begins, and the rest of it.
-#[tactic(auto, using(crate::proofs::Cuts::cut))]
-pub fn split_digits(text: &[u8]) -> (&[u8], &[u8])
-    ensures digits { result.0.now ≡ machine.digits text.now }
-    ensures all { IsTrue (bytes.are_digits result.0.now) }
-    ensures rest { result.1.now ≡ machine.past_digits text.now }
-{
-    let end = count_digits(text);
-    (&text[..end], &text[end..])
-}
-
-/// How many digits a text begins with.
-fn count_digits(text: &[u8]) -> usize
-    ensures value { result ≡ prefix_len is_ascii_digit text.now }
-    ensures within { result ≤ length text.now }
-{
-    text.iter().take_while(|byte| byte.is_ascii_digit()).count()
-}
+use st_text::{is_blank, skip_blanks, split_digits};
 
 /// Whether a byte may stand alone between two fields.
 fn is_mark(byte: u8) -> bool

@@ -6,8 +6,8 @@ ghost use Rattle.st_ticks.specs.ReadingMachine as machine;
 ghost use Rattle.st_ticks.specs.TextMachine.{runs};
 ghost use Rattle.st_ticks.specs.ValuesSteps.{HoldsText};
 
-use crate::cut::{past_separator, split_digits};
-use st_text::are_blanks;
+use crate::cut::past_separator;
+use st_text::{are_blanks, split_digits};
 
 /// The most fields that a clock has.
 pub const MOST_FIELDS: usize = 10;

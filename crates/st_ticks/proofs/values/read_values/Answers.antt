@@ -1,7 +1,8 @@
 use Rattle.std.proofs.Common.{◌≡◌, ℕ, ◌<◌, true, false, ◌==◌, List, [], ◌∷◌, ◌++◌, length, None, Some, sym, ap, ◌∙◌, subst, arith}
 use Rattle.std.proofs.lemmas.Bool.Decides.{nat_tests}
 use Rattle.st_text.specs.Bytes.{are_blanks}
-use Rattle.st_ticks.specs.TextMachine.{digits, past_digits, past_separator}
+use Rattle.st_text.specs.Scan.{leading_digits, past_digits}
+use Rattle.st_ticks.specs.TextMachine.{past_separator}
 use Rattle.st_ticks.proofs.RunLaws.{IsLast, IsMore, runs_stop, next_stop, next_unseparated, ahead_none, ahead_last, ahead_more, more_shorter}
 use Rattle.st_ticks.proofs.values.read_values.Goals as goal
 
@@ -12,14 +13,14 @@ some_cut d e s h = grind (arith, nat_tests)
 no_cut : (d e : List ℕ) → d ≡ e → true ≡ (length d == 0) → length e ≡ 0
 no_cut d e s h = subst (λ (x : List ℕ). length x ≡ 0) s (grind (arith, nat_tests))
 
-is_last : (t d p : List ℕ) → d ≡ digits t → p ≡ past_digits t → 0 < length d → are_blanks p ≡ true → IsLast t d
+is_last : (t d p : List ℕ) → d ≡ leading_digits t → p ≡ past_digits t → 0 < length d → are_blanks p ≡ true → IsLast t d
 is_last t d p e f s h = record { some = s; field = e; blanks = subst (λ (x : List ℕ). are_blanks x ≡ true) f h }
 
 pub returns-then-is_empty : goal.returns-then-is_empty
 returns-then-is_empty c =
     let t = c.loop-digits.rest.now in
     let d = c.split_digits.result.0.now in
-    let none = no_cut d (digits t) c.split_digits.ensures.digits (sym c.if-is_empty.true ∙ c.is_empty.ensures) in
+    let none = no_cut d (leading_digits t) c.split_digits.ensures.digits (sym c.if-is_empty.true ∙ c.is_empty.ensures) in
     ahead_none c.args.text.now t c.loop-digits.invariant.0 c.loop-digits.invariant.2 (runs_stop t (next_stop t none))
 
 pub returns-then-are_blanks : goal.returns-then-are_blanks
@@ -28,7 +29,7 @@ returns-then-are_blanks c =
     let d = c.split_digits.result.0.now in
     let p = c.split_digits.result.1.now in
     let done = c.loop-digits.invariant.0 in
-    let some = some_cut d (digits t) c.split_digits.ensures.digits (sym c.if-is_empty.false ∙ c.is_empty.ensures) in
+    let some = some_cut d (leading_digits t) c.split_digits.ensures.digits (sym c.if-is_empty.false ∙ c.is_empty.ensures) in
     let last = is_last t d p c.split_digits.ensures.digits c.split_digits.ensures.rest some (sym c.are_blanks.ensures ∙ c.if-are_blanks.true) in
     record {
       fields = done ++ (d ∷ []);
@@ -36,7 +37,7 @@ returns-then-are_blanks c =
       holds = c.push.ensures.holds done d c.loop-digits.invariant.1 c.capped_number.ensures.value;
     }
 
-is_more : (t d p u : List ℕ) → d ≡ digits t → p ≡ past_digits t → 0 < length d → are_blanks p ≡ false → Some u ≡ past_separator p → IsMore t d u
+is_more : (t d p u : List ℕ) → d ≡ leading_digits t → p ≡ past_digits t → 0 < length d → are_blanks p ≡ false → Some u ≡ past_separator p → IsMore t d u
 is_more t d p u e f s h n = record {
   some = s;
   field = e;
@@ -61,7 +62,7 @@ loop-digits-smaller c =
     let d = c.split_digits.result.0.now in
     let p = c.split_digits.result.1.now in
     let u = c.in_ok-rest.rest.now in
-    let some = some_cut d (digits t) c.split_digits.ensures.digits (sym c.if-is_empty.false ∙ c.is_empty.ensures) in
+    let some = some_cut d (leading_digits t) c.split_digits.ensures.digits (sym c.if-is_empty.false ∙ c.is_empty.ensures) in
     let rest : Some u ≡ past_separator p = c.in_ok-rest.ensures in
     let next = is_more t d p u c.split_digits.ensures.digits c.split_digits.ensures.rest some (sym c.are_blanks.ensures ∙ c.if-are_blanks.false) rest in
     more_shorter t d u next
@@ -73,7 +74,7 @@ loop-digits-preserved c =
     let p = c.split_digits.result.1.now in
     let u = c.in_ok-rest.rest.now in
     let done = c.loop-digits.invariant.0 in
-    let some = some_cut d (digits t) c.split_digits.ensures.digits (sym c.if-is_empty.false ∙ c.is_empty.ensures) in
+    let some = some_cut d (leading_digits t) c.split_digits.ensures.digits (sym c.if-is_empty.false ∙ c.is_empty.ensures) in
     let rest : Some u ≡ past_separator p = c.in_ok-rest.ensures in
     let next = is_more t d p u c.split_digits.ensures.digits c.split_digits.ensures.rest some (sym c.are_blanks.ensures ∙ c.if-are_blanks.false) rest in (
       done ++ (d ∷ []),
