@@ -1,8 +1,8 @@
 -- What the calls of a clock answer, from what they find.
-use Rattle.std.proofs.Common.{◌≡◌, ◌≢◌, ℕ, ◌+◌, ◌*◌, ◌^◌, ◌<◌, ◌≤◌, ℤ, pos, ◌+ℤ◌, ◌*ℤ◌, ◌≤ℤ◌, ◌<ℤ◌, ◌⊎◌, inl, inr, List, Option, None, Some, Result, Ok, Err, slice_get, refl, sym, ◌∙◌, ap, subst, lit<, arith, mul-pos}
+use Rattle.std.proofs.Common.{◌≡◌, ◌≢◌, ℕ, ◌+◌, ◌*◌, ◌^◌, ◌<◌, ◌≤◌, ℤ, pos, ◌+ℤ◌, ◌*ℤ◌, ◌≤ℤ◌, ◌<ℤ◌, inl, inr, List, Option, Some, Result, Ok, Err, slice_get, refl, sym, ◌∙◌, ap, subst, lit<, arith, mul-pos}
 use Rattle.std.specs.Option.{ForSome}
 use Rattle.std.proofs.lemmas.Int.{ints, by_lt_z}
-use Rattle.st_fraction.specs.Fraction.{Fraction, IsFraction, ◌≤ᶠ◌, ◌<ᶠ◌, ◌≈ᶠ◌, over, whole, units, ◌+ᶠ◌}
+use Rattle.st_fraction.specs.Fraction.{Fraction, IsFraction, ◌<ᶠ◌, ◌≈ᶠ◌, over, units, ◌+ᶠ◌}
 use Rattle.st_fraction.specs.Floor.{IsFloor}
 use Rattle.st_fraction.proofs.Ring.{lin, add-mul_z, one-mul_z, le-mul_z}
 use Rattle.st_fraction.proofs.Order.{le_f_trans, le_of_same, same_refl, same_sym, not_both_f}
@@ -16,17 +16,16 @@ use Rattle.st_clock.specs.declared.point.Point.{Point}
 use Rattle.st_clock.specs.declared.ticks.Ticks.{Ticks}
 use Rattle.st_clock.specs.declared.ticks.Ticks.TheVariants.{Before, At, After}
 use Rattle.st_clock.specs.declared.ticks.TicksUndecided.{TicksUndecided}
-use Rattle.st_clock.specs.Clock.{Clock, tpm, total, AreRising, IsClock, IsLast, BeginsBy, StartsBy, IsTimeOf, line_time}
+use Rattle.st_clock.specs.Clock.{Clock, tpm, total, AreRising, IsClock, BeginsBy, StartsBy, IsTimeOf, line_time}
 use Rattle.st_clock.specs.InForceSteps.{IsInForce}
 use Rattle.st_clock.specs.KeptSteps.{IsSound}
 use Rattle.st_clock.specs.NearestSteps.{IsFloorOrFar}
 use Rattle.st_clock.specs.SmallSteps.{IsSmall}
 use Rattle.st_clock.specs.Tick.{line_tick, capped, IsNumberOf, TickOf, GivesTicks}
 use Rattle.st_clock.specs.Time.{value_of, IsInRange, HasNoTime, GivesTime}
-use Rattle.st_clock.proofs.Falls.{line_tick-den, capped-den, half_more-den, tick_is_one}
+use Rattle.st_clock.proofs.Falls.{line_tick-den, capped-den, half_more-den}
 use Rattle.st_clock.proofs.Rising.{line_time-den, time_is_one}
 use Rattle.st_clock.proofs.Ranges.{parted, parted_at, parted-den}
-use Rattle.st_clock.proofs.Faces.{tpm_some}
 
 pub rising_of : (c : Clock) (records : List Coefficient) → IsSound c → records ≡ c.records → AreRising records
 rising_of c records s e = subst AreRising (sym e) s.clock.rising

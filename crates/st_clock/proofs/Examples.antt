@@ -1,8 +1,8 @@
 -- The definitions on worked values: the clocks of SCLK kernels with one and with two records, from fields of 4294967296
 -- and 256 counts, so that a second has 256 ticks.
-use Rattle.std.proofs.Common.{◌≡◌, ℕ, zero, suc, ◌*◌, ◌^◌, ◌<◌, ◌≤◌, ℤ, pos, negsuc, List, [], ◌∷◌, Some, slice_get, refl, sym, subst, lit<, lit≤, arith, ◌<ℤ◌, false, inl}
+use Rattle.std.proofs.Common.{◌≡◌, ℕ, zero, suc, ◌*◌, ◌^◌, ◌<◌, ℤ, pos, negsuc, [], ◌∷◌, Some, slice_get, refl, sym, subst, lit<, lit≤, arith, ◌<ℤ◌, false, inl}
 use Rattle.std.specs.Int.Signed.{le_z_yes, lt_z_yes}
-use Rattle.st_fraction.specs.Fraction.{Fraction, ◌≤ᶠ◌, ◌<ᶠ◌, over, units}
+use Rattle.st_fraction.specs.Fraction.{◌<ᶠ◌, over, units}
 use Rattle.st_fraction.proofs.Order.{not_both_f}
 use Rattle.std.specs.List.{All}
 use Rattle.st_scales.specs.declared.deltet.Deltet.{Deltet}
@@ -11,7 +11,6 @@ use Rattle.st_clock.specs.Covered.{IsCovered}
 use Rattle.st_clock.specs.Return.{IsPrinted}
 use Rattle.st_ticks.specs.declared.field.Field.{Field}
 use Rattle.st_ticks.specs.declared.field.Partition.{Partition}
-use Rattle.st_scales.specs.declared.scale.Scale.{Scale}
 use Rattle.st_scales.specs.declared.scale.Scale.TheVariants.{Tt, Tdb}
 use Rattle.st_clock.specs.declared.coefficient.Coefficient.{Coefficient}
 use Rattle.st_clock.specs.declared.ticks.Ticks.TheVariants.{Before, At, After}

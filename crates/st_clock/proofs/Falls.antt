@@ -1,13 +1,13 @@
 -- Before, the ticks and After never fall as the time rises; so each time has one tick, and there is one for each.
-use Rattle.std.proofs.Common.{◌≡◌, ℕ, ◌+◌, ◌*◌, ◌^◌, ◌<◌, ◌≤◌, ℤ, pos, negsuc, ◌+ℤ◌, ◌*ℤ◌, neg_ℤ, ◌≤ℤ◌, ◌<ℤ◌, ◌⊎◌, inl, inr, List, Option, None, Some, slice_get, refl, sym, subst, lit<, arith, mul-pos}
+use Rattle.std.proofs.Common.{◌≡◌, ℕ, ◌+◌, ◌*◌, ◌^◌, ◌<◌, ◌≤◌, ℤ, pos, negsuc, ◌+ℤ◌, ◌*ℤ◌, ◌≤ℤ◌, ◌<ℤ◌, ◌⊎◌, inl, inr, List, Option, None, Some, slice_get, refl, sym, subst, lit<, arith, mul-pos}
 use Rattle.std.proofs.lemmas.Bool.{cases_lt}
 use Rattle.std.proofs.lemmas.Int.{ints}
-use Rattle.st_fraction.specs.Fraction.{Fraction, IsFraction, ◌≤ᶠ◌, ◌<ᶠ◌, over, whole, units, ◌+ᶠ◌, ◌-ᶠ◌, ◌*ᶠ◌, least}
+use Rattle.st_fraction.specs.Fraction.{Fraction, IsFraction, ◌≤ᶠ◌, over, whole, units, ◌+ᶠ◌, ◌-ᶠ◌, ◌*ᶠ◌, least}
 use Rattle.st_fraction.specs.Floor.{IsFloor}
 use Rattle.st_fraction.proofs.Ring.{ring, lin, neg-mul_z, le-mul_z}
 use Rattle.st_fraction.proofs.Order.{le_f_refl, le_f_trans, le_f_cases, le_f_add, le_f_mul, not_both_f}
 use Rattle.st_fraction.proofs.Ends.{least-den}
-use Rattle.st_fraction.proofs.Strict.{le_lt_f, least_first, least_second, below_least}
+use Rattle.st_fraction.proofs.Strict.{least_first, least_second, below_least}
 use Rattle.st_fraction.proofs.Floors.{floor_below, floor_rises, floor_found}
 use Rattle.st_clock.specs.declared.coefficient.Coefficient.{Coefficient}
 use Rattle.st_clock.specs.declared.ticks.Ticks.{Ticks}

@@ -1,8 +1,7 @@
 -- The record in force at a time, from the count of those that have begun.
-use Rattle.std.proofs.Common.{◌≡◌, ℕ, ◌+◌, ◌-◌, ◌*◌, ◌^◌, ◌<◌, ◌≤◌, ℤ, pos, ◌*ℤ◌, ◌≤ℤ◌, ◌<ℤ◌, List, Option, None, Some, IfSome, IfNone, length, slice_get, refl, sym, ◌∙◌, ap, subst, lit<, arith}
-use Rattle.std.proofs.lemmas.Int.{ints}
+use Rattle.std.proofs.Common.{◌≡◌, ℕ, ◌+◌, ◌-◌, ◌^◌, ◌<◌, ◌≤◌, ℤ, ◌≤ℤ◌, ◌<ℤ◌, List, Option, None, Some, IfSome, IfNone, slice_get, ◌∙◌, ap, lit<, arith}
 use Rattle.st_fraction.specs.Fraction.{◌≤ᶠ◌, ◌<ᶠ◌, units}
-use Rattle.st_fraction.proofs.Ring.{lin, le-mul_z, lt-mul_z}
+use Rattle.st_fraction.proofs.Ring.{le-mul_z, lt-mul_z}
 use Rattle.st_fraction.proofs.Order.{not_both_f}
 use Rattle.st_clock.specs.declared.coefficient.Coefficient.{Coefficient}
 use Rattle.st_clock.specs.declared.places.InForce.{InForce}

@@ -1,11 +1,10 @@
 -- Records that are gathered one by one.
-use Rattle.std.proofs.Common.{◌≡◌, ℕ, zero, suc, ◌+◌, ◌*◌, ◌/◌, ◌%◌, ◌<◌, ◌≤◌, ℤ, List, [], ◌∷◌, ◌++◌, length, get_or, Some, slice_get, refl, sym, ◌∙◌, subst, arith}
-use Rattle.std.proofs.lemmas.Option.{slice_get-get_or, slice_get_within}
-use Rattle.std.proofs.lemmas.List.{length-append}
+use Rattle.std.proofs.Common.{◌≡◌, ℕ, zero, suc, ◌+◌, ◌*◌, ◌/◌, ◌%◌, ◌<◌, ◌≤◌, ℤ, List, [], ◌∷◌, ◌++◌, length, get_or, Some, slice_get, subst, arith}
+use Rattle.std.proofs.lemmas.Option.{slice_get-get_or}
 use Rattle.st_decimal.specs.declared.number.Dec.{Dec}
 use Rattle.st_clock.specs.declared.coefficient.Coefficient.{Coefficient}
 use Rattle.st_ticks.specs.declared.variable.ClockWhy.TheVariants.{Range}
-use Rattle.st_clock.specs.Parts.{IsTick, IsTime, IsRate, IsRecordAt, AreRecords, EachThird, KeepsCoefficients}
+use Rattle.st_clock.specs.Parts.{IsTick, IsTime, IsRate, IsRecordAt, AreRecords, KeepsCoefficients}
 
 -- what stands at a place behind one more element: what stood there, or the new one
 pub pushed : (P : ℕ → Coefficient → Type 0) (xs : List Coefficient) (x : Coefficient) → ((i : ℕ) (r : Coefficient) → slice_get xs i ≡ Some r → P i r) → P (length xs) x

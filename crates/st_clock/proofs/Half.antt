@@ -1,22 +1,22 @@
 -- A time within half a tick of a covered tick's time has that tick. All is counted in half ticks.
-use Rattle.std.proofs.Common.{◌≡◌, ℕ, zero, suc, ◌+◌, ◌*◌, ◌^◌, ◌<◌, ◌≤◌, ℤ, pos, negsuc, ◌+ℤ◌, ◌-ℤ◌, ◌*ℤ◌, neg_ℤ, ◌≤ℤ◌, ◌<ℤ◌, List, Option, None, Some, slice_get, refl, sym, ap, ◌∙◌, subst, lit<, arith, mul-pos}
+use Rattle.std.proofs.Common.{◌≡◌, ℕ, zero, suc, ◌+◌, ◌*◌, ◌^◌, ◌<◌, ◌≤◌, ℤ, pos, negsuc, ◌+ℤ◌, ◌-ℤ◌, ◌*ℤ◌, neg_ℤ, ◌≤ℤ◌, ◌<ℤ◌, List, Option, None, Some, slice_get, refl, ap, ◌∙◌, subst, lit<, arith, mul-pos}
 use Rattle.std.proofs.lemmas.Int.{ints}
-use Rattle.st_fraction.specs.Fraction.{Fraction, IsFraction, ◌≤ᶠ◌, ◌<ᶠ◌, ◌≈ᶠ◌, over, whole, units, ◌+ᶠ◌, ◌-ᶠ◌, ◌*ᶠ◌, least, IsNear}
+use Rattle.st_fraction.specs.Fraction.{Fraction, IsFraction, ◌≤ᶠ◌, ◌<ᶠ◌, ◌≈ᶠ◌, over, whole, units, ◌+ᶠ◌, ◌-ᶠ◌, ◌*ᶠ◌, IsNear}
 use Rattle.st_fraction.specs.Floor.{IsFloor}
 use Rattle.st_fraction.proofs.Ring.{ring, lin, one-mul_z, two-mul_z, add-mul_z, le-mul_z, le-mul_nonneg, lt-mul_z}
-use Rattle.st_fraction.proofs.Order.{le_f_refl, le_f_trans, le_f_add, le_of_same, same_sym, not_both_f, least_cases}
+use Rattle.st_fraction.proofs.Order.{le_f_trans, le_of_same, same_sym, not_both_f, least_cases}
 use Rattle.st_fraction.proofs.Scale.{IsAt, at_self, at_more, at_add, at_sub, at_mul, le_at, at_le}
 use Rattle.st_fraction.proofs.Within.{Within}
 use Rattle.st_fraction.proofs.Linear.{at_factor, whole_at, at_one_scale, near_at}
-use Rattle.st_fraction.proofs.Strict.{lt_at, at_lt, le_lt_f, lt_le_f, least_first}
+use Rattle.st_fraction.proofs.Strict.{lt_at, at_lt, le_lt_f, lt_le_f}
 use Rattle.st_clock.specs.declared.coefficient.Coefficient.{Coefficient}
 use Rattle.st_clock.specs.declared.ticks.Ticks.TheVariants.{At}
-use Rattle.st_clock.specs.Clock.{Clock, tpm, total, AreRising, IsClock, IsLast, BeginsBy, StartsBy, IsTimeOf, line_time}
+use Rattle.st_clock.specs.Clock.{Clock, tpm, AreRising, IsClock, StartsBy, IsTimeOf, line_time}
 use Rattle.st_clock.specs.Tick.{line_tick, capped, TickOf}
 use Rattle.st_clock.specs.Covered.{IsCovered, tick_length, half_tick}
 use Rattle.st_clock.proofs.Faces.{tpm_some, inside_total}
 use Rattle.st_clock.proofs.Lasts.{by_place, same_record, next_there, times_in_order}
-use Rattle.st_clock.proofs.Falls.{line_tick-den, capped-den, half_more-den, add_half, half_more}
+use Rattle.st_clock.proofs.Falls.{line_tick-den, half_more-den, add_half, half_more}
 use Rattle.st_clock.proofs.Rising.{last_is_one, line_time-den}
 
 pub tick_length-den : (tpm : ℕ) (r : Coefficient) → 0 < tpm → 0 < (tick_length tpm r).den

@@ -1,5 +1,5 @@
 -- The first fault of a clock's variables, and that there is one answer.
-use Rattle.std.proofs.Common.{◌≡◌, ◌≢◌, ℕ, suc, ◌+◌, ◌*◌, ◌^◌, ◌<◌, ◌≤◌, ℤ, pos, negsuc, ◌*ℤ◌, List, [], ◌∷◌, length, get_or, Some, Result, Ok, Err, slice_get, refl, sym, ◌∙◌, ap, subst, arith}
+use Rattle.std.proofs.Common.{◌≡◌, ◌≢◌, ℕ, suc, ◌^◌, ◌<◌, ◌≤◌, ℤ, pos, negsuc, List, [], ◌∷◌, length, get_or, Some, Result, Ok, Err, slice_get, refl, sym, ◌∙◌, ap, subst, arith}
 use Rattle.std.proofs.lemmas.Int.{ints}
 use Rattle.std.proofs.lemmas.Option.{slice_get-get_or, slice_get_within}
 use Rattle.st_fraction.proofs.Ring.{cancel_z}
@@ -8,7 +8,6 @@ use Rattle.st_decimal.specs.Scaling.{IsTimesTen}
 use Rattle.st_decimal.proofs.ScalingLaws.{power_some}
 use Rattle.st_scales.specs.declared.scale.Scale.{Scale}
 use Rattle.st_scales.specs.declared.scale.Scale.TheVariants.{Tai, Tt, Tdb}
-use Rattle.st_ticks.specs.Rules.{AreKept, IsFirstBroken}
 use Rattle.st_ticks.specs.declared.variable.ClockFault.{ClockFault}
 use Rattle.st_ticks.specs.declared.variable.ClockVar.TheVariants.{DataType, TimeSystem}
 use Rattle.st_ticks.specs.declared.variable.ClockWhy.TheVariants.{NotOne, Range}

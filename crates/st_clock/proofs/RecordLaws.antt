@@ -1,18 +1,17 @@
 -- The first fault of a clock's coefficients.
-use Rattle.std.proofs.Common.{◌≡◌, ◌≢◌, ℕ, zero, suc, ◌+◌, ◌*◌, ◌/◌, ◌%◌, ◌<◌, ◌≤◌, ◌-◌, ℤ, pos, FitsSigned, ◌+ℤ◌, ◌<ℤ◌, ◌⊎◌, inl, inr, Bool, true, false, ◌==◌, List, [], ◌∷◌, ◌++◌, length, Some, Result, Ok, Err, slice_get, get_or, refl, sym, ◌∙◌, ap, subst, arith}
+use Rattle.std.proofs.Common.{◌≡◌, ◌≢◌, ℕ, ◌+◌, ◌*◌, ◌/◌, ◌%◌, ◌<◌, ◌≤◌, ◌-◌, ℤ, pos, FitsSigned, ◌+ℤ◌, ◌<ℤ◌, ◌⊎◌, inl, inr, true, false, ◌==◌, List, [], ◌∷◌, length, Some, Ok, Err, slice_get, get_or, refl, sym, subst, arith}
 use Rattle.std.proofs.lemmas.Bool.Decides.{nat_tests}
 use Rattle.std.specs.Int.{w128}
 use Rattle.std.proofs.lemmas.Int.{ints}
 use Rattle.std.proofs.lemmas.Option.{slice_get-get_or, slice_get_within, get_or_from_slice_get}
 use Rattle.st_decimal.specs.declared.number.Dec.{Dec}
-use Rattle.st_ticks.specs.Rules.{AreKept, IsFirstBroken}
 use Rattle.st_ticks.specs.declared.fault.FaceFault.{FaceFault}
 use Rattle.st_ticks.specs.declared.fault.FaceFault.TheVariants.{Bad, OutOfMemory}
 use Rattle.st_ticks.specs.declared.variable.ClockVar.TheVariants.{Coefficients}
 use Rattle.st_ticks.specs.declared.variable.ClockWhy.TheVariants.{NotWhole, NotUnits, Range, Count, NotRising}
 use Rattle.st_clock.specs.declared.coefficient.Coefficient.{Coefficient}
-use Rattle.st_clock.specs.Parts.{IsTick, IsTime, IsRate, IsRecordAt, AreRecords, EachThird, HasNumber, HasUnits, HaveSteps, DoRise, KeepsCoefficients, GivesRecords, fault}
-use Rattle.st_clock.specs.SmallSteps.{IsSmall, AreSmall}
+use Rattle.st_clock.specs.Parts.{IsTick, IsTime, IsRate, AreRecords, EachThird, HasNumber, HaveSteps, DoRise, KeepsCoefficients, GivesRecords, fault}
+use Rattle.st_clock.specs.SmallSteps.{AreSmall}
 use Rattle.st_clock.proofs.Lasts.{by_place}
 use Rattle.st_clock.proofs.PartLaws.{times_ten_is_one}
 

@@ -1,15 +1,15 @@
 -- A covered tick's time, printed in TDB, gives that tick back.
-use Rattle.std.proofs.Common.{◌≡◌, ℕ, zero, suc, ◌+◌, ◌-◌, ◌*◌, ◌^◌, ◌<◌, ◌≤◌, ℤ, pos, negsuc, ◌+ℤ◌, ◌-ℤ◌, ◌*ℤ◌, neg_ℤ, ◌≤ℤ◌, ◌<ℤ◌, Bool, true, false, refl, sym, ◌∙◌, subst, lit<, arith, mul-pos, mul-le-mul_left}
+use Rattle.std.proofs.Common.{◌≡◌, ℕ, zero, suc, ◌+◌, ◌-◌, ◌*◌, ◌^◌, ◌<◌, ◌≤◌, ℤ, pos, negsuc, ◌+ℤ◌, ◌*ℤ◌, neg_ℤ, ◌≤ℤ◌, ◌<ℤ◌, Bool, true, false, refl, ◌∙◌, lit<, arith, mul-pos, mul-le-mul_left}
 use Rattle.std.proofs.lemmas.Nat.{pow-add}
 use Rattle.std.specs.Int.Signed.{le_z_yes}
 use Rattle.std.proofs.lemmas.Int.{ints}
 use Rattle.std.proofs.Math.IntN.{*ℤ_comm}
-use Rattle.st_fraction.specs.Fraction.{Fraction, IsFraction, ◌≤ᶠ◌, ◌<ᶠ◌, ◌≈ᶠ◌, over, whole, ◌+ᶠ◌, ◌-ᶠ◌, ◌*ᶠ◌}
+use Rattle.st_fraction.specs.Fraction.{Fraction, IsFraction, ◌≤ᶠ◌, ◌<ᶠ◌, over, whole, ◌+ᶠ◌, ◌-ᶠ◌, ◌*ᶠ◌}
 use Rattle.st_fraction.specs.Floor.{IsFloor}
-use Rattle.st_fraction.proofs.Ring.{ring, lin, one-mul_z, two-mul_z, three-mul_z, mul-one_z, add-mul_z, mul-pos_z, le_cancel_z, lt_cancel_z}
-use Rattle.st_fraction.proofs.Order.{le_f_refl, le_f_trans, le_of_same, same_sym}
+use Rattle.st_fraction.proofs.Ring.{ring, lin, one-mul_z, two-mul_z, add-mul_z, mul-pos_z, le_cancel_z, lt_cancel_z}
+use Rattle.st_fraction.proofs.Order.{le_f_refl, le_of_same, same_sym}
 use Rattle.st_fraction.proofs.Scale.{IsAt, at_self, at_more, at_add, at_sub, at_mul, le_at, at_le}
-use Rattle.st_fraction.proofs.Linear.{at_factor, whole_at, times_at, at_one_scale}
+use Rattle.st_fraction.proofs.Linear.{whole_at, times_at, at_one_scale}
 use Rattle.st_fraction.proofs.Strict.{lt_at, at_lt}
 use Rattle.st_decimal.proofs.ScalingLaws.{power_some}
 use Rattle.st_scales.specs.declared.deltet.Deltet.{Deltet}
@@ -18,11 +18,10 @@ use Rattle.st_scales.specs.Route.{IsAtLeast, IsAtMost}
 use Rattle.st_scales.proofs.Routes.{route_loosens}
 use Rattle.st_scales.proofs.Returns.{route_returns}
 use Rattle.st_clock.specs.declared.coefficient.Coefficient.{Coefficient}
-use Rattle.st_clock.specs.declared.ticks.Ticks.{Ticks}
 use Rattle.st_clock.specs.declared.ticks.Ticks.TheVariants.{At}
 use Rattle.st_clock.specs.Clock.{Clock, tpm, IsClock, IsTimeOf, line_time}
 use Rattle.st_clock.specs.Covered.{IsCovered, tick_length, half_tick}
-use Rattle.st_clock.specs.Return.{moved, IsCell, printed, IsPrinted, TickReturns, WayBackIsDecided}
+use Rattle.st_clock.specs.Return.{IsCell, printed, IsPrinted, TickReturns, WayBackIsDecided}
 use Rattle.st_clock.specs.Tick.{TickOf}
 use Rattle.st_clock.proofs.Faces.{tpm_some}
 use Rattle.st_clock.proofs.Falls.{tick_rises, same_tick}

@@ -1,5 +1,5 @@
 -- A tick has one time, and records of which each is before the next one are rising.
-use Rattle.std.proofs.Common.{◌≡◌, ℕ, zero, suc, ◌+◌, ◌-◌, ◌*◌, ◌^◌, ◌<◌, ◌≤◌, ℤ, ◌<ℤ◌, List, Some, slice_get, sym, subst, arith, lit<, mul-pos}
+use Rattle.std.proofs.Common.{◌≡◌, ℕ, zero, suc, ◌+◌, ◌-◌, ◌^◌, ◌<◌, ℤ, ◌<ℤ◌, List, Some, slice_get, subst, arith, lit<, mul-pos}
 use Rattle.st_fraction.specs.Fraction.{Fraction, IsFraction, ◌≈ᶠ◌}
 use Rattle.st_fraction.proofs.Ring.{lin}
 use Rattle.st_fraction.proofs.Order.{same_sym, same_trans}

@@ -1,9 +1,8 @@
 -- Whether a number times ten to a power is whole.
-use Rattle.std.proofs.Common.{◌≡◌, ℕ, suc, ◌+◌, ◌*◌, ◌^◌, ◌<◌, ◌≤◌, ℤ, pos, negsuc, ◌+ℤ◌, ◌-ℤ◌, ◌*ℤ◌, ◌≤ℤ◌, ◌<ℤ◌, Bool, true, false, ◌==◌, unsigned_abs, refl, sym, ap, ◌∙◌, subst, lit<, arith, mul-le-mul_left, pow-suc}
-use Rattle.std.specs.Int.Signed.{le_z, lt_z}
+use Rattle.std.proofs.Common.{◌≡◌, ℕ, suc, ◌*◌, ◌^◌, ◌<◌, ◌≤◌, ℤ, pos, negsuc, ◌+ℤ◌, ◌-ℤ◌, ◌*ℤ◌, ◌≤ℤ◌, ◌<ℤ◌, true, false, ◌==◌, unsigned_abs, refl, sym, ap, ◌∙◌, arith, mul-le-mul_left, pow-suc}
+use Rattle.std.specs.Int.Signed.{le_z}
 use Rattle.std.proofs.lemmas.Bool.Decides.{nat_tests}
 use Rattle.std.proofs.lemmas.Int.{ints, unsigned_abs-mul}
-use Rattle.st_decimal.specs.declared.number.Dec.{Dec}
 use Rattle.st_decimal.specs.Scaling.{IsTimesTen, IsUnits18}
 use Rattle.st_decimal.proofs.ScalingLaws.{power_some, lowered_over}
 

@@ -1,7 +1,7 @@
 -- The correlation of a spacecraft clock with time, after NAIF's SCLK Required Reading, type 1: a record gives an encoded
 -- tick, the time at that tick in the clock's own scale, and the rate from there on, in seconds for each count of the
 -- clock's first field.
-use Rattle.std.specs.Prelude.{◌≡◌, ℕ, ◌+◌, ◌<◌, ◌≤◌, ℤ, pos, ◌-ℤ◌, ◌<ℤ◌, List, length, Some}
+use Rattle.std.specs.Prelude.{◌≡◌, ℕ, ◌<◌, ◌≤◌, pos, ◌-ℤ◌, ◌<ℤ◌, List, length, Some}
 use Rattle.std.specs.List.{slice_get}
 use Rattle.st_fraction.specs.Fraction.{Fraction, ◌≤ᶠ◌, ◌≈ᶠ◌, over, units, ◌+ᶠ◌, ◌*ᶠ◌}
 use Rattle.st_ticks.specs.Face as face

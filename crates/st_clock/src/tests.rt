@@ -137,7 +137,10 @@ fn leaves_a_gap(rt: HostRuntime) -> Result<(), Fail> {
     let lo = 93_750 * MILLI;
     let one = gap.ticks_in(Enc { lo, hi: lo + 1 });
     assert!(rt; matches!(one, Ok(Ticks::At(24_000))));
-    let two = gap.ticks_in(Enc { lo: lo - 4 * MILLI, hi: lo });
+    let two = gap.ticks_in(Enc {
+        lo: lo - 4 * MILLI,
+        hi: lo,
+    });
     let ends = TicksUndecided {
         lo: Ticks::At(23_999),
         hi: Ticks::At(24_000),

@@ -1,4 +1,4 @@
-use Rattle.std.proofs.Common.{ℤ, ◌≤ℤ◌, ap, of_z}
+use Rattle.std.proofs.Common.{◌≤ℤ◌, ap, of_z}
 use Rattle.std.specs.Int.{w128}
 use Rattle.std.proofs.lemmas.Int.{to_z-of_z}
 use Rattle.st_dates.specs.Range.{range_start, range_end}

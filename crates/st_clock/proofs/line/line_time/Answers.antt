@@ -1,4 +1,4 @@
-use Rattle.std.proofs.Common.{ℤ, pos, ◌+ℤ◌, ◌<ℤ◌, ◌^◌, FitsSigned, arith}
+use Rattle.std.proofs.Common.{pos, ◌+ℤ◌, ◌<ℤ◌, ◌^◌, FitsSigned, arith}
 use Rattle.std.specs.Int.{w128}
 use Rattle.std.proofs.lemmas.Int.{ints, to_z-of_z}
 use Rattle.st_dates.specs.Range.{range_end}

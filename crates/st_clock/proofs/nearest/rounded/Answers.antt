@@ -1,4 +1,4 @@
-use Rattle.std.proofs.Common.{inl, arith}
+use Rattle.std.proofs.Common.{inl}
 use Rattle.st_clock.proofs.Rounding.{rounded_low, rounded_high}
 use Rattle.st_clock.proofs.nearest.rounded.Goals as goal
 

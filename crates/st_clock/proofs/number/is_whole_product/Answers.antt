@@ -1,7 +1,6 @@
-use Rattle.std.proofs.Common.{◌≡◌, ◌^◌, ◌<◌, ℤ, pos, ◌<ℤ◌, ◌+ℤ◌, ◌-ℤ◌, FitsSigned, unsigned_abs, true, false, ap, refl, sym, subst, of_z, to_z, arith}
+use Rattle.std.proofs.Common.{◌≡◌, ◌^◌, ◌<◌, pos, ◌<ℤ◌, ◌+ℤ◌, ◌-ℤ◌, FitsSigned, unsigned_abs, ap, refl, of_z, to_z, arith}
 use Rattle.std.specs.Int.{w32, w128}
 use Rattle.std.proofs.lemmas.Int.{ints, to_z-of_z}
-use Rattle.st_decimal.specs.Scaling.{IsTimesTen}
 use Rattle.st_clock.proofs.Wholes.{whole_up, whole_zero, too_low, as_units, from_units, at_least_zero, below_zero}
 use Rattle.st_clock.proofs.number.is_whole_product.Goals as goal
 

@@ -1,6 +1,5 @@
-use Rattle.std.proofs.Common.{◌≡◌, ℕ, ◌+◌, ◌*◌, ◌/◌, ◌<◌, inl, inr, length, arith}
+use Rattle.std.proofs.Common.{inr, length, arith}
 use Rattle.std.proofs.lemmas.List.{length-append}
-use Rattle.st_clock.specs.declared.coefficient.Coefficient.{Coefficient}
 use Rattle.st_clock.specs.Parts.{IsRecordAt}
 use Rattle.st_clock.proofs.Gathers.{pushed, record_at_place, out_of_range, third_within}
 use Rattle.st_clock.proofs.records.gather.Goals as goal

@@ -1,4 +1,4 @@
-use Rattle.std.proofs.Common.{◌≡◌, ℕ, ◌<◌, Some, slice_get, length}
+use Rattle.std.proofs.Common.{◌≡◌, ℕ, Some, slice_get, length}
 use Rattle.st_clock.specs.declared.coefficient.Coefficient.{Coefficient}
 use Rattle.st_clock.specs.Parts.{IsRecordAt}
 use Rattle.st_clock.proofs.records.gather.Given as goal

@@ -1,4 +1,4 @@
-use Rattle.std.proofs.Common.{◌≡◌, Bool, true, false, inl, inr, subst, sym}
+use Rattle.std.proofs.Common.{◌≡◌, Bool, true, false}
 use Rattle.std.proofs.lemmas.Result.{err_from_is_err_and}
 use Rattle.st_clock.proofs.RecordLaws.{empty_count, part_count, counted, broken_whole, broken_units, broken_range, broken_rising, records_found, records_small}
 use Rattle.st_clock.proofs.records.read_records.Goals as goal

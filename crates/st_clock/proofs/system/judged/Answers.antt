@@ -1,5 +1,5 @@
-use Rattle.std.proofs.Common.{◌≡◌, ◌≢◌, ℕ, length, Bool, true, false, arith}
-use Rattle.st_clock.proofs.PartLaws.{type_not_one, type_range, system_not_one, system_range, system_found, system_left_out}
+use Rattle.std.proofs.Common.{◌≡◌, length, Bool, true, false}
+use Rattle.st_clock.proofs.PartLaws.{type_not_one, type_range, system_not_one, system_range}
 use Rattle.st_clock.proofs.Wholes.{not_empty}
 use Rattle.st_clock.proofs.system.judged.Goals as goal
 

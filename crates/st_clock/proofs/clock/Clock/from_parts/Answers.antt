@@ -1,7 +1,6 @@
 use Rattle.std.proofs.Common.{Ok, Err}
 use Rattle.st_ticks.specs.declared.fault.FaceFault.TheVariants.{Bad}
 use Rattle.st_clock.specs.KeptSteps.{seen}
-use Rattle.st_clock.specs.Parts.{GivesClock}
 use Rattle.st_clock.proofs.ClockLaws.{system_fault, record_fault, clock_found, clock_sound, clock_answer_is_one}
 use Rattle.st_clock.proofs.clock.Clock.from_parts.Goals as goal
 

@@ -1,4 +1,4 @@
-use Rattle.std.proofs.Common.{◌≡◌, ℕ, ◌+◌, ◌*◌, ◌^◌, ◌<◌, ◌≤◌, ◌∙◌, ap, subst, sym, lit<, arith}
+use Rattle.std.proofs.Common.{◌≡◌, ◌∙◌, ap, subst, lit<}
 use Rattle.std.specs.Int.{w128}
 use Rattle.std.proofs.lemmas.Int.{to_z-of_z}
 use Rattle.st_fraction.specs.Fraction.{IsFraction, units}
