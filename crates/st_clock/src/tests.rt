@@ -136,14 +136,14 @@ fn leaves_a_gap(rt: HostRuntime) -> Result<(), Fail> {
     assert_eq!(rt; gap.time_of(24_000), Ok(at));
     let lo = 93_750 * MILLI;
     let one = gap.ticks_in(Enc { lo, hi: lo + 1 });
-    assert!(rt; matches!(one, Ok(Ticks::At(24_000))));
+    assert!(rt; matches!(one, Ok(Ticks::At(26_560))));
     let two = gap.ticks_in(Enc {
         lo: lo - 4 * MILLI,
         hi: lo,
     });
     let ends = TicksUndecided {
-        lo: Ticks::At(23_999),
-        hi: Ticks::At(24_000),
+        lo: Ticks::At(26_559),
+        hi: Ticks::At(26_560),
     };
     assert!(rt; matches!(two, Err(found) if found == ends));
     Ok(())
