@@ -152,6 +152,9 @@ fn reads_clock_strings(rt: HostRuntime) -> Result<(), Fail> {
     }
     assert_eq!(rt; face.ticks_per_count(), 256);
     assert_eq!(rt; face.total(), 1_099_511_627_775);
+    assert!(rt; 300 <= face.total());
+    let line = face.write_clock(rt.alloc(), 300)?;
+    assert_eq!(rt; line.as_slice(), b"1/0000000001.044".as_slice());
     Ok(())
 }
 
@@ -360,6 +363,85 @@ fn refuses_variables(rt: HostRuntime) {
         &[most],
     );
     assert!(rt; face.is_ok());
+}
+
+const HALF: Dec = Dec {
+    digits: 5,
+    tens: -1,
+};
+
+const MOST_TICKS: Dec = Dec {
+    digits: 1,
+    tens: 18,
+};
+
+const MORE_TICKS: Dec = Dec {
+    digits: 1_000_000_000_000_000_001,
+    tens: 0,
+};
+
+/// Each row: offsets, delimiter, starts, ends, and the fault.
+#[test]
+fn refuses_one_above_the_limits(rt: HostRuntime) {
+    use ClockVar::{Delim, End, Offsets, Start};
+    use ClockWhy::{NotOne, NotWhole, Range};
+    let table: [([&[Dec]; 4], ClockVar, ClockWhy); 7] = [
+        ([&[HALF], &[ONE], &[NONE], &[ONE]], Offsets, NotWhole),
+        ([&[NONE], &[], &[NONE], &[ONE]], Delim, NotOne),
+        ([&[NONE], &[ONE, ONE], &[NONE], &[ONE]], Delim, NotOne),
+        ([&[NONE], &[ONE], &[HALF], &[ONE]], Start, NotWhole),
+        ([&[NONE], &[ONE], &[MORE_TICKS], &[ONE]], Start, Range),
+        ([&[NONE], &[ONE], &[NONE], &[HALF]], End, NotWhole),
+        ([&[NONE], &[ONE], &[NONE], &[MORE_TICKS]], End, Range),
+    ];
+    for ([offsets, delim, starts, ends], var, why) in table {
+        let face = Face::from_parts(rt.alloc(), &[ONE], &[ONE], offsets, delim, starts, ends);
+        assert!(rt; is_fault(&face, var, why));
+    }
+    let most = [MOST_TICKS];
+    let face = Face::from_parts(rt.alloc(), &[ONE], &[ONE], &[NONE], &[ONE], &most, &most);
+    assert!(rt; face.is_ok());
+}
+
+#[test]
+fn has_up_to_ten_fields(rt: HostRuntime) {
+    let ten = [Dec { digits: 1, tens: 1 }];
+    let eleven = [Dec {
+        digits: 11,
+        tens: 0,
+    }];
+    let face = Face::from_parts(
+        rt.alloc(),
+        &ten,
+        &[ONE; 10],
+        &[NONE; 10],
+        &[ONE],
+        &[NONE],
+        &[ONE],
+    );
+    assert!(rt; face.is_ok());
+    let face = Face::from_parts(
+        rt.alloc(),
+        &eleven,
+        &[ONE; 11],
+        &[NONE; 11],
+        &[ONE],
+        &[NONE],
+        &[ONE],
+    );
+    assert!(rt; is_fault(&face, ClockVar::NFields, ClockWhy::Range));
+    let face = Face::from_parts(rt.alloc(), &[NONE], &[], &[], &[ONE], &[NONE], &[ONE]);
+    assert!(rt; is_fault(&face, ClockVar::NFields, ClockWhy::Range));
+}
+
+#[test]
+fn has_up_to_9999_partitions(rt: HostRuntime) {
+    let most = [NONE; 9_999];
+    let face = Face::from_parts(rt.alloc(), &[ONE], &[ONE], &[NONE], &[ONE], &most, &most);
+    assert!(rt; face.is_ok());
+    let more = [NONE; 10_000];
+    let face = Face::from_parts(rt.alloc(), &[ONE], &[ONE], &[NONE], &[ONE], &more, &more);
+    assert!(rt; is_fault(&face, ClockVar::Start, ClockWhy::Count));
 }
 
 /// Whether making a face was refused for this.
