@@ -1,0 +1,15 @@
+pub mod Months
+pub mod Steps
+pub mod Counts
+pub mod CellLaws
+pub mod FloorLaws
+pub mod ValueLaws
+pub mod Fronts
+pub mod Cuts
+pub mod CutLoop
+pub mod RuleLaws
+pub mod UnitLaws
+pub mod ReadLaws
+pub mod AloneLaws
+pub mod PrintLaws
+pub mod OneAnswer

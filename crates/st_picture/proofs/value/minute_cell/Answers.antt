@@ -1,0 +1,19 @@
+use Rattle.std.proofs.Common.{◌≡◌, ℕ, ◌+◌, ◌-◌, ◌*◌, ◌/◌, ◌^◌, ◌<◌, ◌≤◌, refl, sym, ap, ◌∙◌, subst, arith, lit<, lit≤, ℤ, pos, neg_ℤ, ◌+ℤ◌, ◌-ℤ◌, ◌*ℤ◌, ◌≤ℤ◌, ◌<ℤ◌, rules}
+use Rattle.std.proofs.lemmas.Int.{ints, to_z-of_z}
+use Rattle.std.specs.Int.{w32, w128, int_div_euclid}
+use Rattle.st_leaps.proofs.Casts.{kept128}
+use Rattle.st_picture.specs.Cell.{capped}
+use Rattle.st_picture.specs.declared.cell.Cell.{Cell}
+use Rattle.st_picture.specs.declared.cell.Cell.TheVariants as cells
+use Rattle.st_picture.proofs.CellLaws.{tens_some}
+use Rattle.st_picture.proofs.ValueLaws.{tens_range, counted, dated_by, truncated_is, half_steps, small_pos, julian_half, second_half, count_half}
+use Rattle.st_picture.proofs.value.minute_cell.Goals as goal
+use mir.Val.{to_z, of_z, SFits}
+
+pub returns-clause-cell : goal.returns-clause-cell
+returns-clause-cell c =
+    let d : to_z w32 (of_z w32 c.args.label.day) ≡ c.args.label.day = search rules in
+    let o : to_z w128 (of_z w128 c.args.label.of_day) ≡ c.args.label.of_day = search rules in
+    let z = kept128 c.at_most.result c.at_most.type_inv ∙ c.at_most.ensures.value ∙ ap (capped (pos (86_340 * 10 ^ 18))) (kept128 c.cut.result c.cut.type_inv) in
+    (c.cut.result, truncated_is c.args.label.of_day c.cut.result (60 * 10 ^ 18) (lit< tt)
+    (c.cut.ensures.value ∙ ap (λ (x : ℤ). int_div_euclid x (pos (60 * 10 ^ 18)) *ℤ pos (60 * 10 ^ 18)) o), λ i. cells.Day (d i) (z i))

@@ -1,0 +1,12 @@
+pub mod Mark
+pub mod Picture
+pub mod Reading
+pub mod Text
+pub mod KeptSteps
+pub mod Named
+pub mod Printing
+pub mod ReadingMachine
+pub mod Cell
+pub mod CellMachine
+pub mod CellShown
+pub mod Laws
