@@ -49,9 +49,10 @@ cut_is text pieces e c = record {
 cut_to : (pieces : List Piece) → ((before : List Piece) (piece : Piece) (after : List Piece) → pieces ≡ before ++ (piece ∷ after) → IsLongest piece (spelled (piece ∷ after)))
     → CutsTo pieces []
 cut_to [] longest = tt
-cut_to (p ∷ pieces) longest =
-    (subst (λ (t : List ℕ). IsLongest p t) (sym (end_nothing (spelled (p ∷ pieces)))) (longest [] p pieces refl),
-    cut_to pieces (λ before piece after e. longest (p ∷ before) piece after (ap (λ (ps : List Piece). p ∷ ps) e)))
+cut_to (p ∷ pieces) longest = (
+  subst (λ (t : List ℕ). IsLongest p t) (sym (end_nothing (spelled (p ∷ pieces)))) (longest [] p pieces refl),
+  cut_to pieces (λ before piece after e. longest (p ∷ before) piece after (ap (λ (ps : List Piece). p ∷ ps) e)),
+)
 
 pub piece_some : (piece : Piece) → 1 ≤ length (piece_text piece)
 piece_some (Plain b) = omega arith
@@ -66,9 +67,11 @@ cut_found (suc fuel) (b ∷ text) h =
     let some = piece_some first in
     let sizes = ap length begins.1 ∙ length-append (piece_text first) begins.0 in
     let more = cut_found fuel begins.0 (omega arith) in
-    let whole : b ∷ text ≡ spelled (first ∷ more.0) = begins.1 ∙ ap (λ (t : List ℕ). piece_text first ++ t) more.1 in
-    (first ∷ more.0, whole,
-    (subst (λ (t : List ℕ). IsLongest first t) (whole ∙ sym (end_nothing (spelled (first ∷ more.0)))) (front_longest (b ∷ text)), more.2))
+    let whole : b ∷ text ≡ spelled (first ∷ more.0) = begins.1 ∙ ap (λ (t : List ℕ). piece_text first ++ t) more.1 in (
+      first ∷ more.0,
+      whole,
+      (subst (λ (t : List ℕ). IsLongest first t) (whole ∙ sym (end_nothing (spelled (first ∷ more.0)))) (front_longest (b ∷ text)), more.2),
+    )
 
 pub each_has_cut : (text : List ℕ) → (pieces : List Piece) × IsCut text pieces
 each_has_cut text = let c = cut_found (length text) text (omega arith) in (c.0, cut_is text c.0 c.1 c.2)

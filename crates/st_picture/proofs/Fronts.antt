@@ -304,8 +304,11 @@ piece_begins text (Some mark) some e =
     let starts = test_begins text (stem_of mark) (found_passes (has_stem text) stems mark e) in
     let behind = places_lead rest in
     elim (cases_Bool (takes_places mark)) [
-      | inl t ↦ (behind.0, spelled_with text behind.0 mark (places_behind rest) (places_behind rest) (places_with mark (places_behind rest) t)
-          (starts ∙ ap (λ (r : List ℕ). stem_of mark ++ r) behind.1))
+      | inl t ↦ (
+        behind.0,
+        spelled_with text behind.0 mark (places_behind rest) (places_behind rest) (places_with mark (places_behind rest) t)
+            (starts ∙ ap (λ (r : List ℕ). stem_of mark ++ r) behind.1),
+      )
       | inr t ↦ (rest, spelled_with text rest mark (places_behind rest) 0 (no_places_with mark (places_behind rest) t) starts)
     ]
 
@@ -347,10 +350,12 @@ same_stems text first mark e b t =
     let starts = longer_begins text (stem_of mark) (stem_of first) (has_its_stem text mark b) has l in
     let like = like_takes mark first text t e in
     let take = both (takes_places first) (nat_lt (length (stem_of first)) (suc (length (stem_of mark))))
-        (either (not (starts_with nat_eq (stem_of first) (stem_of mark))) (takes_places first && nat_lt (length (stem_of first)) (suc (length (stem_of mark)))) like (denied _ starts)) in
-    let few = less_of (length (stem_of first)) (suc (length (stem_of mark))) take.1 in
-    (take.0, same_words (stem_of first) (stem_of mark) (drop (length (stem_of first)) text) (hashes (places_of mark) ++ b.rest)
-    (sym (test_begins text (stem_of first) has) ∙ stem_begins text mark b) (omega arith))
+    (either (not (starts_with nat_eq (stem_of first) (stem_of mark))) (takes_places first && nat_lt (length (stem_of first)) (suc (length (stem_of mark)))) like (denied _ starts)) in
+    let few = less_of (length (stem_of first)) (suc (length (stem_of mark))) take.1 in (
+      take.0,
+      same_words (stem_of first) (stem_of mark) (drop (length (stem_of first)) text) (hashes (places_of mark) ++ b.rest)
+          (sym (test_begins text (stem_of first) has) ∙ stem_begins text mark b) (omega arith),
+    )
   where
     denied : (b : Bool) → b ≡ true → not b ≡ false
     denied true h = refl
@@ -370,7 +375,7 @@ longest_mark text first mark e b =
           let same = same_stems text first mark e b t in
           let starts = test_begins text (stem_of first) (found_passes (has_stem text) stems first e) in
           let rests = same_rests (stem_of first) rest (hashes (places_of mark) ++ b.rest)
-              (sym starts ∙ stem_begins text mark b ∙ ap (λ (w : List ℕ). w ++ (hashes (places_of mark) ++ b.rest)) (sym same.1)) in
+          (sym starts ∙ stem_begins text mark b ∙ ap (λ (w : List ℕ). w ++ (hashes (places_of mark) ++ b.rest)) (sym same.1)) in
           let few = hashes_rise (places_of mark) p (places_begin (places_of mark) rest b.rest rests) in
           let places = ap (λ (q : ℕ). length (hashes q)) (places_with first p same.0) in
           omega arith

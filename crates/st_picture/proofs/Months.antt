@@ -25,8 +25,11 @@ dates_rise : (y m k z n e : ℕ) → IsCalendarDay y m k → IsCalendarDay z n e
 dates_rise y m k z n e h i l =
     let t = totals y m k z n e h.day_from i.day_from l in
     elim (cases_order y z) [
-      | inl same ↦ inr (same, same_years z m k n e (subst (λ (x : ℕ). IsCalendarDay x m k) same h) i
-          (subst (λ (x : ℕ). days_before_year x + day_of_year x m k ≤ days_before_year z + day_of_year z n e) same t))
+      | inl same ↦ inr (
+        same,
+        same_years z m k n e (subst (λ (x : ℕ). IsCalendarDay x m k) same h) i
+            (subst (λ (x : ℕ). days_before_year x + day_of_year x m k ≤ days_before_year z + day_of_year z n e) same t),
+      )
       | inr other ↦ elim other [
         | inl lt ↦ inl lt
         | inr gt ↦
@@ -121,13 +124,16 @@ month_of_place n =
     let among = m.1.among in
     let d = n - days_before_year y.0 - days_of_months y.0 m.0 + 1 in
     let back : days_of_months y.0 (suc m.0 - 1) ≡ days_of_months y.0 m.0 = let e : suc m.0 - 1 ≡ m.0 = omega arith in ap (days_of_months y.0) e in
-    let total : days_before_year y.0 + days_of_months y.0 (suc m.0 - 1) + (d - 1) ≡ n = omega arith in
-    (pos y.0, suc m.0, record {
-      year_from = omega (arith, ints);
-      of_month = d;
-      date = record { month_from = omega arith; month_to = omega arith; day_from = omega arith; day_to = omega arith };
-      number = ap (λ (k : ℕ). pos k -ℤ pos (days_before_year 2000)) total;
-    })
+    let total : days_before_year y.0 + days_of_months y.0 (suc m.0 - 1) + (d - 1) ≡ n = omega arith in (
+      pos y.0,
+      suc m.0,
+      record {
+        year_from = omega (arith, ints);
+        of_month = d;
+        date = record { month_from = omega arith; month_to = omega arith; day_from = omega arith; day_to = omega arith };
+        number = ap (λ (k : ℕ). pos k -ℤ pos (days_before_year 2000)) total;
+      },
+    )
 
 pub has_month : (day : ℤ) → neg_ℤ (pos 730_485) ≤ℤ day → (year : ℤ) × (month : ℕ) × IsOfMonth day year month
 has_month day from =

@@ -76,9 +76,11 @@ unit_tests_to system text pieces (Some u) e c5 =
     let c8 = clear_next system text pieces 7 CountInUtc (lit≤ tt) refl c7 (told_not (is_utc system && list_any is_count pieces) _ (tells_count_in_utc system pieces) f7) in
     cond_case P (list_any (names_other system) pieces) _ _ (λ t. ((tells_other system pieces).is t, c8, lit≤ tt, lit≤ tt)) (λ f8.
     let c9 = clear_next system text pieces 8 WrongSystem (lit≤ tt) refl c8 (told_not (list_any (names_other system) pieces) _ (tells_other system pieces) f8) in
-    cond_case P (rounds_of false pieces && is_never_halved u) _ _ (λ t. ((tells_no_unit pieces u least).is t, c9, lit≤ tt, lit≤ tt)) (λ f9.
-    (least, rounds_is pieces,
-    clear_next system text pieces 9 NoUnit (lit≤ tt) refl c9 (told_not (rounds_of false pieces && is_never_halved u) _ (tells_no_unit pieces u least) f9))))))
+    cond_case P (rounds_of false pieces && is_never_halved u) _ _ (λ t. ((tells_no_unit pieces u least).is t, c9, lit≤ tt, lit≤ tt)) (λ f9. (
+      least,
+      rounds_is pieces,
+      clear_next system text pieces 9 NoUnit (lit≤ tt) refl c9 (told_not (rounds_of false pieces && is_never_halved u) _ (tells_no_unit pieces u least) f9),
+    )))))
 
 pub tests_to : (system : System) (text : List ℕ) (pieces : List Piece) → Clear system text pieces 2 → TestsTo system text pieces (tested system pieces)
 unfolding fault_at

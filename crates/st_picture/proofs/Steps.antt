@@ -32,13 +32,15 @@ truncated_rises step s t y z ps pt le h k =
 pub truncated_found : (step : ℕ) (s : Fraction) → 0 < step → 0 < s.den → (z : ℤ) × IsTruncated step s z
 truncated_found step s some ps =
     let f = floor_found (over (s.num *ℤ pos (10 ^ 18)) (s.den * step)) (mul-pos ps some) in
-    let q = f.0 in
-    (q *ℤ pos step, record {
-      times = q;
-      multiple = refl;
-      from = record { le = from q (pos step) (pos s.den) s.num (pos (10 ^ 18)) f.1.at_most.le };
-      to = record { lt = to q (pos step) (pos s.den) s.num (pos (10 ^ 18)) f.1.below_next.lt };
-    })
+    let q = f.0 in (
+      q *ℤ pos step,
+      record {
+        times = q;
+        multiple = refl;
+        from = record { le = from q (pos step) (pos s.den) s.num (pos (10 ^ 18)) f.1.at_most.le };
+        to = record { lt = to q (pos step) (pos s.den) s.num (pos (10 ^ 18)) f.1.below_next.lt };
+      },
+    )
   where
     from : (q k d n u : ℤ) → (q *ℤ (d *ℤ k)) ≤ℤ (n *ℤ u *ℤ pos 1) → (q *ℤ k *ℤ d) ≤ℤ (n *ℤ u)
     from q k d n u h =

@@ -249,11 +249,13 @@ as_coarse pieces u w h k = k.finest h.mark u h.stands h.prints
 pub tells_no_unit : (pieces : List Piece) (u : LeastUnit) → IsLeastUnit pieces u
     → Tells (rounds_of false pieces && is_never_halved u) (AsksToRound pieces × (IsLeastUnit pieces units.Month ⊎ IsLeastUnit pieces units.Year))
 tells_no_unit pieces u least = record {
-  is = λ e. let parts = both (rounds_of false pieces) (is_never_halved u) e in
-      ((tells_rounds pieces).is parts.0, elim (never_halved u parts.1) [
-        | inl m ↦ inl (subst (λ (x : LeastUnit). IsLeastUnit pieces x) m least)
-        | inr y ↦ inr (subst (λ (x : LeastUnit). IsLeastUnit pieces x) y least)
-      ]);
+  is = λ e. let parts = both (rounds_of false pieces) (is_never_halved u) e in (
+    (tells_rounds pieces).is parts.0,
+    elim (never_halved u parts.1) [
+      | inl m ↦ inl (subst (λ (x : LeastUnit). IsLeastUnit pieces x) m least)
+      | inr y ↦ inr (subst (λ (x : LeastUnit). IsLeastUnit pieces x) y least)
+    ],
+  );
   only = λ h. both_true (rounds_of false pieces) (is_never_halved u) ((tells_rounds pieces).only h.0) (coarse u (elim h.1 [
     | inl m ↦ as_coarse pieces u units.Month least m
     | inr y ↦ let l = as_coarse pieces u units.Year least y in omega arith
@@ -353,7 +355,7 @@ count_beside_only pieces h =
     let more = count_more h.between (Marked h.second) h.after second in
     let many : nat_lt 1 (count_by is_printing pieces) ≡ true = less_is 1 (count_by is_printing pieces) (omega (arith, sum, more)) in
     let again : pieces ≡ (h.before ++ (Marked h.first ∷ h.between)) ++ (Marked h.second ∷ h.after) =
-        h.whole ∙ sym (append_assoc h.before (Marked h.first ∷ h.between) (Marked h.second ∷ h.after)) in
+    h.whole ∙ sym (append_assoc h.before (Marked h.first ∷ h.between) (Marked h.second ∷ h.after)) in
     both_true (list_any is_count pieces) (nat_lt 1 (count_by is_printing pieces)) (elim h.count [
       | inl c ↦ any_in is_count pieces h.before (Marked h.first) (h.between ++ (Marked h.second ∷ h.after)) h.whole (count_only h.first c)
       | inr c ↦ any_in is_count pieces (h.before ++ (Marked h.first ∷ h.between)) (Marked h.second) h.after again (count_only h.second c)

@@ -80,7 +80,10 @@ fn stem_at(text: &[u8]) -> Option<Mark>
     ensures first { result ≡ first_stem text.now }
     ensures within { IfSome result (λ mark. length (stem_of mark) ≤ length text.now) }
 {
-    STEMS.iter().copied().find(|mark| text.starts_with(stem(*mark)))
+    STEMS
+        .iter()
+        .copied()
+        .find(|mark| text.starts_with(stem(*mark)))
 }
 
 /// The letters of a mark.

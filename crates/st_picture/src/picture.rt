@@ -112,7 +112,12 @@ impl Picture {
     /// # Errors
     ///
     /// [`PrintFault`]: the two ends lie in different cells, which it carries; or want of memory.
-    pub fn print_in(&self, alloc: Global, value: Enc, leaps: Option<&LeapTable>) -> Result<Line, PrintFault>
+    pub fn print_in(
+        &self,
+        alloc: Global,
+        value: Enc,
+        leaps: Option<&LeapTable>,
+    ) -> Result<Line, PrintFault>
         requires leaps { self.now.system ≡ Utc → IsSome leaps }
         requires lo { IsPrintable value.lo }
         requires hi { IsPrintable value.hi }

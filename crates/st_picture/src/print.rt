@@ -21,7 +21,11 @@ use st_text::put_padded;
 const SECOND: u128 = 1_000_000_000_000_000_000;
 
 /// Appends what the pieces print.
-pub(crate) fn put_pieces(out: &mut Vec<u8>, shown: Shown, pieces: &[Piece]) -> Result<(), OutOfMemory>
+pub(crate) fn put_pieces(
+    out: &mut Vec<u8>,
+    shown: Shown,
+    pieces: &[Piece],
+) -> Result<(), OutOfMemory>
     requires named { IsNamed shown }
     requires places { list_any has_many_places pieces.now ≡ false }
     ensures { OnOk result (out.new.items ≡ out.old.items ++ flat_map (shown_text shown) pieces.now) }
@@ -53,12 +57,28 @@ fn put_mark(out: &mut Vec<u8>, shown: Shown, mark: Mark) -> Result<(), OutOfMemo
     match mark {
         Mark::Year => put_digits(out, shown.civil.year.unsigned_abs(), 4),
         Mark::Month => put_digits(out, u32::from(shown.civil.month), 2),
-        Mark::MonthShort(letters) => put_name(out, letters, first_three(month_name(shown.civil.month))),
-        Mark::MonthName(letters) => put_name(out, letters, month_name(shown.civil.month).as_bytes()),
+        Mark::MonthShort(letters) => put_name(
+            out,
+            letters,
+            first_three(month_name(shown.civil.month)),
+        ),
+        Mark::MonthName(letters) => put_name(
+            out,
+            letters,
+            month_name(shown.civil.month).as_bytes(),
+        ),
         Mark::DayOfMonth => put_digits(out, u32::from(shown.civil.day), 2),
         Mark::DayOfYear => put_digits(out, u32::from(shown.civil.doy), 3),
-        Mark::WeekdayShort(letters) => put_name(out, letters, first_three(weekday_name(shown.civil.weekday))),
-        Mark::WeekdayName(letters) => put_name(out, letters, weekday_name(shown.civil.weekday).as_bytes()),
+        Mark::WeekdayShort(letters) => put_name(
+            out,
+            letters,
+            first_three(weekday_name(shown.civil.weekday)),
+        ),
+        Mark::WeekdayName(letters) => put_name(
+            out,
+            letters,
+            weekday_name(shown.civil.weekday).as_bytes(),
+        ),
         Mark::Hour => put_digits(out, shown.hour, 2),
         Mark::HourOfHalf => put_digits(out, hour_of_half(shown.hour), 2),
         Mark::Minute => put_digits(out, shown.minute, 2),
@@ -85,7 +105,11 @@ fn put_seconds(out: &mut Vec<u8>, second: u128, places: u32) -> Result<(), OutOf
     ensures { OnOk result (out.new.items ≡ out.old.items ++ seconds_text second places) }
 {
     put_padded(out, second / SECOND, 2)?;
-    put_decimals(out, second % SECOND / 10u128.pow(18 - places), places as usize)
+    put_decimals(
+        out,
+        second % SECOND / 10u128.pow(18 - places),
+        places as usize,
+    )
 }
 
 /// Appends a point and decimals, and neither for none.

@@ -100,7 +100,9 @@ fn has_hash(pieces: &[Piece]) -> bool
 fn has_many_places(pieces: &[Piece]) -> bool
     ensures { result ≡ list_any machine.has_many_places pieces.now }
 {
-    pieces.iter().any(|piece| piece_places(*piece) > MOST_PLACES)
+    pieces
+        .iter()
+        .any(|piece| piece_places(*piece) > MOST_PLACES)
 }
 
 fn has_count(pieces: &[Piece]) -> bool
@@ -159,7 +161,10 @@ fn is_seconds(piece: Piece) -> bool
 fn printing_marks(pieces: &[Piece]) -> usize
     ensures { result ≡ count_by machine.is_printing pieces.now }
 {
-    pieces.iter().filter(|piece| unit_of(**piece).is_some()).count()
+    pieces
+        .iter()
+        .filter(|piece| unit_of(**piece).is_some())
+        .count()
 }
 
 /// Whether two marks of seconds have different numbers of decimals.

@@ -71,15 +71,31 @@ fn prints_utc(rt: HostRuntime) -> Result<(), Fail> {
     let one = 36_035 * SECOND;
     let rows = [
         ("YYYY-MM-DDTHR:MN:SC", inserted, "2016-12-31T23:59:60"),
-        ("YYYY-MM-DDTHR:MN:SC.###", inserted, "2016-12-31T23:59:60.700"),
+        (
+            "YYYY-MM-DDTHR:MN:SC.###",
+            inserted,
+            "2016-12-31T23:59:60.700",
+        ),
         ("YYYY-MM-DDTHR:MN:SC::RND", inserted, "2017-01-01T00:00:00"),
-        ("YYYY-MM-DDTHR:MN:SC::RND::TRNC", inserted, "2016-12-31T23:59:60"),
+        (
+            "YYYY-MM-DDTHR:MN:SC::RND::TRNC",
+            inserted,
+            "2016-12-31T23:59:60",
+        ),
         ("HR:MN", inserted, "23:59"),
         ("AP AMPM", inserted, "11 P.M."),
-        ("YYYY-MM-DDTHR:MN:SC.###", removed, "2029-12-31T23:59:58.500"),
+        (
+            "YYYY-MM-DDTHR:MN:SC.###",
+            removed,
+            "2029-12-31T23:59:58.500",
+        ),
         ("YYYY-MM-DDTHR:MN:SC::RND", removed, "2030-01-01T00:00:00"),
         ("YYYY-MM-DDTHR:MN::RND", removed, "2030-01-01T00:00"),
-        ("WKD MON DD, YYYY AP:MN AMPM (HR)", 3_635 * SECOND, "SAT JAN 01, 2000 01:00 P.M. (13)"),
+        (
+            "WKD MON DD, YYYY AP:MN AMPM (HR)",
+            3_635 * SECOND,
+            "SAT JAN 01, 2000 01:00 P.M. (13)",
+        ),
         ("Weekday DOY", one, "Saturday 001"),
     ];
     for row in rows {
@@ -91,20 +107,69 @@ fn prints_utc(rt: HostRuntime) -> Result<(), Fail> {
 #[test]
 fn prints_dates(rt: HostRuntime) -> Result<(), Fail> {
     let table = leaps(rt.alloc())?;
-    let all = "YYYY MM MON Mon mon MONTH Month month DD DOY WKD Wkd wkd WEEKDAY Weekday weekday HR AP MN SC.### AMPM ampm::TAI";
+    let all =
+        "YYYY MM MON Mon mon MONTH Month month DD DOY WKD Wkd wkd WEEKDAY Weekday weekday HR AP MN SC.### AMPM ampm::TAI";
     let rows = [
-        (all, -6_311_390_400_000 * MILLI, "1800 01 JAN Jan jan JANUARY January january 01 001 WED Wed wed WEDNESDAY Wednesday wednesday 00 12 00 00.000 A.M. a.m."),
-        (all, 6_311_390_399_999 * MILLI, "2199 12 DEC Dec dec DECEMBER December december 31 365 TUE Tue tue TUESDAY Tuesday tuesday 23 11 59 59.999 P.M. p.m."),
-        (all, 5_097_600_000 * MILLI, "2000 02 FEB Feb feb FEBRUARY February february 29 060 TUE Tue tue TUESDAY Tuesday tuesday 12 12 00 00.000 P.M. p.m."),
-        (all, 5_054_400_000 * MILLI, "2000 02 FEB Feb feb FEBRUARY February february 29 060 TUE Tue tue TUESDAY Tuesday tuesday 00 12 00 00.000 A.M. a.m."),
-        (all, -3_150_619_200_001 * MILLI, "1900 02 FEB Feb feb FEBRUARY February february 28 059 WED Wed wed WEDNESDAY Wednesday wednesday 23 11 59 59.999 P.M. p.m."),
-        (all, -86_400_500 * MILLI, "1999 12 DEC Dec dec DECEMBER December december 31 365 FRI Fri fri FRIDAY Friday friday 11 11 59 59.500 A.M. a.m."),
-        (all, 0 * MILLI, "2000 01 JAN Jan jan JANUARY January january 01 001 SAT Sat sat SATURDAY Saturday saturday 12 12 00 00.000 P.M. p.m."),
-        (all, -932_468_276_996 * MILLI, "1970 06 JUN Jun jun JUNE June june 15 166 MON Mon mon MONDAY Monday monday 01 01 02 03.004 A.M. a.m."),
-        (all, 536_500_799_000 * MILLI, "2016 12 DEC Dec dec DECEMBER December december 31 366 SAT Sat sat SATURDAY Saturday saturday 23 11 59 59.000 P.M. p.m."),
-        (all, 3_160_863_000_000 * MILLI, "2100 03 MAR Mar mar MARCH March march 01 060 MON Mon mon MONDAY Monday monday 13 01 30 00.000 P.M. p.m."),
-        (all, 779_946_330_250 * MILLI, "2024 09 SEP Sep sep SEPTEMBER September september 18 262 WED Wed wed WEDNESDAY Wednesday wednesday 15 03 45 30.250 P.M. p.m."),
-        (all, -960_910_940_000 * MILLI, "1969 07 JUL Jul jul JULY July july 20 201 SUN Sun sun SUNDAY Sunday sunday 20 08 17 40.000 P.M. p.m."),
+        (
+            all,
+            -6_311_390_400_000 * MILLI,
+            "1800 01 JAN Jan jan JANUARY January january 01 001 WED Wed wed WEDNESDAY Wednesday wednesday 00 12 00 00.000 A.M. a.m.",
+        ),
+        (
+            all,
+            6_311_390_399_999 * MILLI,
+            "2199 12 DEC Dec dec DECEMBER December december 31 365 TUE Tue tue TUESDAY Tuesday tuesday 23 11 59 59.999 P.M. p.m.",
+        ),
+        (
+            all,
+            5_097_600_000 * MILLI,
+            "2000 02 FEB Feb feb FEBRUARY February february 29 060 TUE Tue tue TUESDAY Tuesday tuesday 12 12 00 00.000 P.M. p.m.",
+        ),
+        (
+            all,
+            5_054_400_000 * MILLI,
+            "2000 02 FEB Feb feb FEBRUARY February february 29 060 TUE Tue tue TUESDAY Tuesday tuesday 00 12 00 00.000 A.M. a.m.",
+        ),
+        (
+            all,
+            -3_150_619_200_001 * MILLI,
+            "1900 02 FEB Feb feb FEBRUARY February february 28 059 WED Wed wed WEDNESDAY Wednesday wednesday 23 11 59 59.999 P.M. p.m.",
+        ),
+        (
+            all,
+            -86_400_500 * MILLI,
+            "1999 12 DEC Dec dec DECEMBER December december 31 365 FRI Fri fri FRIDAY Friday friday 11 11 59 59.500 A.M. a.m.",
+        ),
+        (
+            all,
+            0 * MILLI,
+            "2000 01 JAN Jan jan JANUARY January january 01 001 SAT Sat sat SATURDAY Saturday saturday 12 12 00 00.000 P.M. p.m.",
+        ),
+        (
+            all,
+            -932_468_276_996 * MILLI,
+            "1970 06 JUN Jun jun JUNE June june 15 166 MON Mon mon MONDAY Monday monday 01 01 02 03.004 A.M. a.m.",
+        ),
+        (
+            all,
+            536_500_799_000 * MILLI,
+            "2016 12 DEC Dec dec DECEMBER December december 31 366 SAT Sat sat SATURDAY Saturday saturday 23 11 59 59.000 P.M. p.m.",
+        ),
+        (
+            all,
+            3_160_863_000_000 * MILLI,
+            "2100 03 MAR Mar mar MARCH March march 01 060 MON Mon mon MONDAY Monday monday 13 01 30 00.000 P.M. p.m.",
+        ),
+        (
+            all,
+            779_946_330_250 * MILLI,
+            "2024 09 SEP Sep sep SEPTEMBER September september 18 262 WED Wed wed WEDNESDAY Wednesday wednesday 15 03 45 30.250 P.M. p.m.",
+        ),
+        (
+            all,
+            -960_910_940_000 * MILLI,
+            "1969 07 JUL Jul jul JULY July july 20 201 SUN Sun sun SUNDAY Sunday sunday 20 08 17 40.000 P.M. p.m.",
+        ),
     ];
     for row in rows {
         prints(&rt, rt.alloc(), &table, System::Tai, row)?;

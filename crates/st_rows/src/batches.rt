@@ -344,9 +344,19 @@ fn faults_of_the_outside(rt: HostRuntime) -> Result<(), Fail> {
             input: read_call,
             output: write_call,
         };
-        let (status, output) = run_row(alloc, words.as_slice(), folder(alloc)?, FIVE_LINES, failing)?;
+        let (status, output) = run_row(
+            alloc,
+            words.as_slice(),
+            folder(alloc)?,
+            FIVE_LINES,
+            failing,
+        )?;
         assert_eq!(rt; status, wanted, "{read_call} {write_call}");
-        assert_eq!(rt; output.as_slice(), written.as_bytes(), "{read_call} {write_call}");
+        assert_eq!(rt;
+            output.as_slice(),
+            written.as_bytes(),
+            "{read_call} {write_call}"
+        );
     }
     Ok(())
 }

@@ -28,7 +28,11 @@ fn refused_times(rt: HostRuntime) -> Result<(), Fail> {
         let words = to_tai(alloc, time)?;
         let (status, output) = run_row(alloc, words.as_slice(), files(alloc)?, b"", SAFE)?;
         assert_eq!(rt; status, Status::SomeRefused, "{time}");
-        assert_eq!(rt; output.as_slice(), b"refused BAD_TIME\n".as_slice(), "{time}");
+        assert_eq!(rt;
+            output.as_slice(),
+            b"refused BAD_TIME\n".as_slice(),
+            "{time}"
+        );
     }
     Ok(())
 }
@@ -202,7 +206,11 @@ fn faults_outside(rt: HostRuntime) -> Result<(), Fail> {
         };
         let (status, output) = run_row(alloc, words.as_slice(), files(alloc)?, b"", failing)?;
         assert_eq!(rt; status, wanted, "{of_files} {of_output}");
-        assert_eq!(rt; output.as_slice(), written.as_bytes(), "{of_files} {of_output}");
+        assert_eq!(rt;
+            output.as_slice(),
+            written.as_bytes(),
+            "{of_files} {of_output}"
+        );
     }
     Ok(())
 }

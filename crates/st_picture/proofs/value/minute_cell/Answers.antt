@@ -14,6 +14,9 @@ pub returns-clause-cell : goal.returns-clause-cell
 returns-clause-cell c =
     let d : to_z w32 (of_z w32 c.args.label.day) ≡ c.args.label.day = search rules in
     let o : to_z w128 (of_z w128 c.args.label.of_day) ≡ c.args.label.of_day = search rules in
-    let z = kept128 c.at_most.result c.at_most.type_inv ∙ c.at_most.ensures.value ∙ ap (capped (pos (86_340 * 10 ^ 18))) (kept128 c.cut.result c.cut.type_inv) in
-    (c.cut.result, truncated_is c.args.label.of_day c.cut.result (60 * 10 ^ 18) (lit< tt)
-    (c.cut.ensures.value ∙ ap (λ (x : ℤ). int_div_euclid x (pos (60 * 10 ^ 18)) *ℤ pos (60 * 10 ^ 18)) o), λ i. cells.Day (d i) (z i))
+    let z = kept128 c.at_most.result c.at_most.type_inv ∙ c.at_most.ensures.value ∙ ap (capped (pos (86_340 * 10 ^ 18))) (kept128 c.cut.result c.cut.type_inv) in (
+      c.cut.result,
+      truncated_is c.args.label.of_day c.cut.result (60 * 10 ^ 18) (lit< tt)
+          (c.cut.ensures.value ∙ ap (λ (x : ℤ). int_div_euclid x (pos (60 * 10 ^ 18)) *ℤ pos (60 * 10 ^ 18)) o),
+      λ i. cells.Day (d i) (z i),
+    )
