@@ -5,9 +5,9 @@ use Rattle.std.specs.Str.{IsAscii}
 use Rattle.st_pool.specs.declared.kernel.Kernel.{Kernel}
 use Rattle.st_text.specs.Lines.{without_cr}
 use Rattle.st_batch.specs.declared.answer.Answer.TheVariants.{Text, Refused}
-use Rattle.st_batch.specs.declared.fault.KernelFault.TheVariants as kernel_fault
+use Rattle.st_batch.specs.declared.kernel_fault.KernelFault.TheVariants as kernel_fault
 use Rattle.st_batch.specs.declared.fault.LineFault.TheVariants.{NoFile, NotLoaded}
-use Rattle.st_batch.specs.declared.job.Work.TheVariants.{Batch}
+use Rattle.st_words.specs.declared.job.Work.TheVariants.{Batch}
 use Rattle.st_batch.specs.declared.status.Status.TheVariants.{SomeRefused}
 use Rattle.st_batch.specs.Commands.{IsLoad, IsUnload}
 use Rattle.st_batch.specs.Outcome.{HaveEnded, status_of}

@@ -3,13 +3,13 @@ use Rattle.std.proofs.Common.{◌≡◌, ◌≢◌, ℕ, ◌<◌, ◌≤◌, ◌
 use Rattle.st_outside.specs.Entries.{Entries}
 use Rattle.st_batch.specs.declared.fault.LineFault.{LineFault}
 use Rattle.st_batch.specs.declared.fault.LineFault.TheVariants as line
-use Rattle.st_batch.specs.declared.job.Job.{Job}
+use Rattle.st_words.specs.declared.job.Job.{Job}
 use Rattle.st_batch.specs.declared.status.Status.TheVariants.{Done, SomeRefused, BadWords, BadSetup, ReadFault, WriteFault, OutOfMemory, InputTooLong}
 use Rattle.st_batch.specs.Laws.{GoodRunIsAnswered, IsAnsweredOrCut}
 use Rattle.st_batch.specs.Outcome.{IsLongInput, Outside, SetupRefused, over}
 use Rattle.st_batch.specs.Setting.{Loaded}
 use Rattle.st_batch.specs.Setup.{SetupGives}
-use Rattle.st_batch.specs.Words.{WordsGive}
+use Rattle.st_words.specs.Reading.{WordsGive}
 use Rattle.st_batch.proofs.SetupLaws.{not-both}
 use Rattle.st_batch.proofs.WordsLaws.{one-job, one-or-none}
 

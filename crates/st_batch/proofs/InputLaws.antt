@@ -11,9 +11,9 @@ use Rattle.st_outside.proofs.StateLaws.{AreLater-same}
 use Rattle.st_text.specs.Lines.{lines_of}
 use Rattle.st_batch.specs.declared.answer.Answer.{Answer}
 use Rattle.st_batch.specs.declared.input.TheConstants.{MAX_INPUT}
-use Rattle.st_batch.specs.declared.job.Job.{Job}
-use Rattle.st_batch.specs.declared.job.Work.{Work}
-use Rattle.st_batch.specs.declared.job.Work.TheVariants.{Time, Batch}
+use Rattle.st_words.specs.declared.job.Job.{Job}
+use Rattle.st_words.specs.declared.job.Work.{Work}
+use Rattle.st_words.specs.declared.job.Work.TheVariants.{Time, Batch}
 use Rattle.st_batch.specs.declared.status.Status.{Status}
 use Rattle.st_batch.specs.declared.status.Status.TheVariants.{Done, SomeRefused, BadWords, BadSetup, ReadFault, WriteFault, OutOfMemory, InputTooLong}
 use Rattle.st_batch.specs.Causes.{AreCounted}

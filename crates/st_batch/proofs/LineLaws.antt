@@ -8,8 +8,8 @@ use Rattle.st_pool.specs.Loaded.{is_loaded, without_last}
 use Rattle.st_text.specs.Lines.{trimmed}
 use Rattle.st_batch.specs.declared.answer.Answer.{Answer}
 use Rattle.st_batch.specs.declared.answer.Answer.TheVariants.{Text, Refused}
-use Rattle.st_batch.specs.declared.fault.KernelFault.{KernelFault}
-use Rattle.st_batch.specs.declared.fault.KernelFault.TheVariants as kernel
+use Rattle.st_batch.specs.declared.kernel_fault.KernelFault.{KernelFault}
+use Rattle.st_batch.specs.declared.kernel_fault.KernelFault.TheVariants as kernel
 use Rattle.st_batch.specs.declared.fault.LineFault.{LineFault}
 use Rattle.st_batch.specs.declared.fault.LineFault.TheVariants.{BadCommand, LineTooLong, FileFault}
 use Rattle.st_batch.specs.declared.session.TheConstants.{MAX_LINE}

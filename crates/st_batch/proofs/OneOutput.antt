@@ -5,12 +5,12 @@ use Rattle.st_outside.specs.Causes.{RoseBy}
 use Rattle.st_outside.specs.Entries.{Entries}
 use Rattle.st_batch.specs.declared.answer.Answer.{Answer}
 use Rattle.st_batch.specs.declared.answer.Answer.TheVariants.{Refused}
-use Rattle.st_batch.specs.declared.fault.WordFault.{WordFault}
+use Rattle.st_words.specs.declared.fault.WordFault.{WordFault}
 use Rattle.st_batch.specs.declared.fault.LineFault.{LineFault}
 use Rattle.st_batch.specs.declared.fault.LineFault.TheVariants.{FileFault}
-use Rattle.st_batch.specs.declared.job.Job.{Job}
-use Rattle.st_batch.specs.declared.job.Work.{Work}
-use Rattle.st_batch.specs.declared.job.Work.TheVariants.{Time, Batch}
+use Rattle.st_words.specs.declared.job.Job.{Job}
+use Rattle.st_words.specs.declared.job.Work.{Work}
+use Rattle.st_words.specs.declared.job.Work.TheVariants.{Time, Batch}
 use Rattle.st_batch.specs.declared.status.Status.{Status}
 use Rattle.st_batch.specs.declared.status.Status.TheVariants.{Done, SomeRefused, BadWords, BadSetup, ReadFault, WriteFault, OutOfMemory, InputTooLong}
 use Rattle.st_batch.specs.Causes.{IsCaused, is_file_fault}
@@ -20,7 +20,8 @@ use Rattle.st_batch.specs.Session.{RunsTo}
 use Rattle.st_batch.specs.Setting.{Loaded, Setting}
 use Rattle.st_batch.specs.Setup.{SetupGives}
 use Rattle.st_batch.specs.Texts.{setup_line, words_line}
-use Rattle.st_batch.specs.Words.{AreLines, WordsGive}
+use Rattle.st_batch.specs.Lines.{AreLines}
+use Rattle.st_words.specs.Reading.{WordsGive}
 use Rattle.st_batch.proofs.LineLaws.{Step, one-step}
 use Rattle.st_batch.proofs.SetupLaws.{not-both, one-refusal, one-setup}
 use Rattle.st_batch.proofs.WordsLaws.{one-job, one-or-none}

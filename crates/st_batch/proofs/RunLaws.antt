@@ -2,10 +2,10 @@
 use Rattle.std.proofs.Common.{◌≡◌, ◌≢◌, ℕ, inl, inr, Option, Ok, Err, List, [], refl, sym, ap, ◌∙◌, subst}
 use Rattle.std.proofs.KnownBytes.{Appends-nil}
 use Rattle.st_outside.specs.States.{FilesState, InputState}
-use Rattle.st_batch.specs.declared.fault.WordFault.{WordFault}
+use Rattle.st_words.specs.declared.fault.WordFault.{WordFault}
 use Rattle.st_batch.specs.declared.fault.LineFault.{LineFault}
-use Rattle.st_batch.specs.declared.job.Job.{Job}
-use Rattle.st_batch.specs.declared.job.Work.TheVariants.{Batch}
+use Rattle.st_words.specs.declared.job.Job.{Job}
+use Rattle.st_words.specs.declared.job.Work.TheVariants.{Batch}
 use Rattle.st_batch.specs.declared.status.Status.{Status}
 use Rattle.st_batch.specs.declared.status.Status.TheVariants.{Done, SomeRefused, BadWords, BadSetup, ReadFault, WriteFault, OutOfMemory, InputTooLong}
 use Rattle.st_batch.specs.Causes.{IsCaused}
@@ -14,7 +14,7 @@ use Rattle.st_batch.specs.OutputSteps.{Delivers, IsCut}
 use Rattle.st_batch.specs.Setting.{Loaded, State, setting}
 use Rattle.st_batch.specs.Setup.{SetupGives}
 use Rattle.st_batch.specs.Texts.{setup_line, words_line}
-use Rattle.st_batch.specs.Words.{AskFor, WordsGive}
+use Rattle.st_words.specs.Reading.{WordsGive}
 use Rattle.st_batch.proofs.InputLaws.{Gives}
 
 -- a job was opened, and its lines answered as far as the run came

@@ -1,8 +1,8 @@
 -- A refusal of a loading as the refusal of a line or a setup, and what the setup of a job gives.
 use Rattle.std.proofs.Common.{◌≡◌, ◌≢◌, Option, Some, Result, Ok, Err, List, [], ℕ, sym, ap, ◌∙◌, subst}
 use Rattle.st_outside.specs.Entries.{Entries}
-use Rattle.st_batch.specs.declared.fault.KernelFault.{KernelFault}
-use Rattle.st_batch.specs.declared.fault.KernelFault.TheVariants as kernel
+use Rattle.st_batch.specs.declared.kernel_fault.KernelFault.{KernelFault}
+use Rattle.st_batch.specs.declared.kernel_fault.KernelFault.TheVariants as kernel
 use Rattle.st_batch.specs.declared.fault.LineFault.{LineFault}
 use Rattle.st_batch.specs.declared.fault.LineFault.TheVariants as line
 use Rattle.st_batch.specs.Load.{LoadGives, line_fault}

@@ -3,10 +3,10 @@ use Rattle.std.specs.Prelude.{◌≡◌, ◌≢◌, ℕ, ◌<◌, ◌^◌, ◌-�
 use Rattle.st_outside.specs.Entries.{Entries}
 use Rattle.st_batch.specs.declared.answer.Answer.{Answer}
 use Rattle.st_batch.specs.declared.answer.Answer.TheVariants.{Refused}
-use Rattle.st_batch.specs.declared.fault.KernelFault.{KernelFault}
-use Rattle.st_batch.specs.declared.fault.KernelFault.TheVariants as kernel
+use Rattle.st_batch.specs.declared.kernel_fault.KernelFault.{KernelFault}
+use Rattle.st_batch.specs.declared.kernel_fault.KernelFault.TheVariants as kernel
 use Rattle.st_batch.specs.declared.fault.LineFault.TheVariants.{FileFault}
-use Rattle.st_batch.specs.declared.job.Job.{Job}
+use Rattle.st_words.specs.declared.job.Job.{Job}
 use Rattle.st_batch.specs.declared.status.Status.{Status}
 use Rattle.st_batch.specs.declared.status.Status.TheVariants.{Done, SomeRefused, BadWords, BadSetup, InputTooLong}
 use Rattle.st_batch.specs.Causes.{is_file_fault}
@@ -16,7 +16,7 @@ use Rattle.st_batch.specs.Outcome.{HaveEnded, Outcome, Outside, over}
 use Rattle.st_batch.specs.Session.{MayAnswer, RunsTo}
 use Rattle.st_batch.specs.Setting.{Loaded, Setting}
 use Rattle.st_batch.specs.Setup.{SetupGives}
-use Rattle.st_batch.specs.Words.{WordsGive}
+use Rattle.st_words.specs.Reading.{WordsGive}
 
 -- the run was not cut off
 abbrev pub IsComplete : Status → Type 0

@@ -10,8 +10,8 @@ use Rattle.st_pool.specs.Loaded.{value_count, loaded_count}
 use Rattle.st_pool.specs.declared.fault.LoadFault.{LoadFault}
 use Rattle.st_pool.specs.declared.fault.LoadFault.TheVariants as pool
 use Rattle.st_pool.specs.declared.kernel.Kernel.{Kernel}
-use Rattle.st_batch.specs.declared.fault.KernelFault.{KernelFault}
-use Rattle.st_batch.specs.declared.fault.KernelFault.TheVariants.{NoFile, FileFault, FileTooLong, KernelText, TooManyKernels, TooManyValues, OutOfMemory}
+use Rattle.st_batch.specs.declared.kernel_fault.KernelFault.{KernelFault}
+use Rattle.st_batch.specs.declared.kernel_fault.KernelFault.TheVariants.{NoFile, FileFault, FileTooLong, KernelText, TooManyKernels, TooManyValues, OutOfMemory}
 use Rattle.st_batch.specs.declared.fault.LineFault.{LineFault}
 use Rattle.st_batch.specs.declared.fault.LineFault.TheVariants as line
 use Rattle.st_batch.specs.Limits.{most_file_bytes}

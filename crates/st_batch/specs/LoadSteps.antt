@@ -1,7 +1,7 @@
 -- What the parts of a loading give: the reading, and what is made of the bytes.
 use Rattle.std.specs.Prelude.{◌≡◌, ℕ, ◌<◌, Option, Some, None, Err, List, length, ⊤}
-use Rattle.st_batch.specs.declared.fault.KernelFault.{KernelFault}
-use Rattle.st_batch.specs.declared.fault.KernelFault.TheVariants.{FileFault, FileTooLong, OutOfMemory}
+use Rattle.st_batch.specs.declared.kernel_fault.KernelFault.{KernelFault}
+use Rattle.st_batch.specs.declared.kernel_fault.KernelFault.TheVariants.{FileFault, FileTooLong, OutOfMemory}
 use Rattle.st_batch.specs.declared.load.TheConstants.{MAX_FILE}
 use Rattle.st_batch.specs.Load.{BytesGive}
 use Rattle.st_batch.specs.Setting.{Loaded}

@@ -7,19 +7,20 @@ use Rattle.st_text.specs.Lines.{lines_of}
 use Rattle.st_batch.specs.declared.answer.Answer.{Answer}
 use Rattle.st_batch.specs.declared.answer.Answer.TheVariants.{Text, Refused}
 use Rattle.st_batch.specs.declared.fault.LineFault.{LineFault}
-use Rattle.st_batch.specs.declared.fault.WordFault.{WordFault}
-use Rattle.st_batch.specs.declared.job.Job.{Job}
-use Rattle.st_batch.specs.declared.job.Work.{Work}
-use Rattle.st_batch.specs.declared.job.Work.TheVariants.{Batch}
+use Rattle.st_words.specs.declared.fault.WordFault.{WordFault}
+use Rattle.st_words.specs.declared.job.Job.{Job}
+use Rattle.st_words.specs.declared.job.Work.{Work}
+use Rattle.st_words.specs.declared.job.Work.TheVariants.{Batch}
 use Rattle.st_batch.specs.declared.status.Status.{Status}
 use Rattle.st_batch.specs.declared.status.Status.TheVariants.{Done, SomeRefused, BadWords, BadSetup, ReadFault, WriteFault, OutOfMemory, InputTooLong}
 use Rattle.st_batch.specs.Causes.{AreCounted, IsCaused}
 use Rattle.st_batch.specs.Limits.{most_input_bytes}
 use Rattle.st_batch.specs.Session.{RunsTo}
-use Rattle.st_batch.specs.Setting.{Loaded, Setting}
+use Rattle.st_batch.specs.Setting.{Loaded, Setting, State}
 use Rattle.st_batch.specs.Setup.{SetupGives}
 use Rattle.st_batch.specs.Texts.{line_of, setup_line, words_line}
-use Rattle.st_batch.specs.Words.{AskFor, WordsGive, AreLines, IsShortInput}
+use Rattle.st_words.specs.Reading.{WordsGive}
+use Rattle.st_batch.specs.Lines.{AreLines, IsShortInput}
 
 -- what a run writes for the answers of its lines: each as a line of its own
 abbrev pub output_of : Work → List Answer → List ℕ
@@ -121,10 +122,10 @@ LinesOutcome o job loaded status bytes = ⊥
 -- the words ask for a job, its setup loads, and the answering of its lines ended so
 pub record LinesEnded (o : Outside) (words : List (List ℕ)) (status : Status) (bytes : List ℕ) : Type 0 where
   pub job : Job
-  pub loaded : Loaded
+  pub session : State
   pub asked : WordsGive words (Ok job)
-  pub setup : SetupGives (over o job) (Ok loaded)
-  pub lines : LinesOutcome o job loaded status bytes
+  pub setup : SetupGives (over o job) (Ok session)
+  pub lines : LinesOutcome o session.job session.loaded status bytes
 
 -- the words were refused
 pub record WordsRefused (words : List (List ℕ)) (fault : WordFault) (bytes : List ℕ) : Type 0 where
@@ -176,4 +177,4 @@ IsAnswered status = ⊥
 abbrev pub ReadsNothing : List (List ℕ) → Status → Type 0
 ReadsNothing words (BadWords fault) = ⊤
 ReadsNothing words (BadSetup cause) = ⊤
-ReadsNothing words status = (job : Job) → AskFor words job → job.work ≡ Batch → ⊥
+ReadsNothing words status = (job : Job) → WordsGive words (Ok job) → job.work ≡ Batch → ⊥

@@ -2,7 +2,7 @@
 use Rattle.std.specs.Prelude.{Option, List}
 use Rattle.st_outside.specs.Entries.{Entries}
 use Rattle.st_pool.specs.declared.kernel.Kernel.{Kernel}
-use Rattle.st_batch.specs.declared.job.Job.{Job}
+use Rattle.st_words.specs.declared.job.Job.{Job}
 
 -- the loaded list: the kernels in the order of their loading
 abbrev pub Loaded : Type 0

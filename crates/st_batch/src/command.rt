@@ -8,7 +8,8 @@ ghost use Rattle.st_batch.specs.Load.{line_fault};
 ghost use Rattle.st_batch.specs.declared.answer.Answer.TheVariants.{Refused, Text};
 
 use crate::answer::{Answer, said};
-use crate::fault::{KernelFault, LineFault};
+use crate::fault::LineFault;
+use crate::kernel_fault::KernelFault;
 use crate::load::load_file;
 use st_decimal::OutOfMemory;
 use st_outside::Files;

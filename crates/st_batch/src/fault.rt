@@ -1,32 +1,13 @@
-//! Why words or a line are refused.
+//! Why a setup or a line is refused.
 
-ghost use Rattle.std.specs.Prelude.{◌≡◌};
-
-use st_decimal::OutOfMemory;
-use st_kernel_text::{TextCause, TextFault};
-use st_pool::LoadFault;
+use crate::kernel_fault::KernelFault;
+use st_kernel_text::TextCause;
+use st_leaps::LeapFault;
+use st_routes::TimeFault;
+use st_scales::DeltetFault;
+use st_ticks::{ClockFault, ClockTextFault, ClockVar, ClockWhy, Var};
+use st_words::{IdFault, SetupFault};
 use thiserror::Error;
-
-/// Why the words of the program are refused.
-#[derive(Clone, Copy, Debug, PartialEq, Eq, Error)]
-pub enum WordFault {
-    /// The words have another shape than the one that is built.
-    #[error("the words have another shape")]
-    NotBuilt,
-    /// Memory was refused. A run then ends with [`Status::OutOfMemory`](crate::Status::OutOfMemory).
-    #[error("out of memory")]
-    OutOfMemory,
-}
-
-impl From<OutOfMemory> for WordFault {
-    ghost use Rattle.st_batch.specs.declared.fault.WordFault.TheVariants as fault;
-
-    ghost from_gives = { λ _ e. e ≡ fault.OutOfMemory };
-
-    fn from(_error: OutOfMemory) -> WordFault {
-        WordFault::OutOfMemory
-    }
-}
 
 /// Why a setup or a line is refused.
 #[derive(Clone, Copy, Debug, PartialEq, Eq, Error)]
@@ -58,40 +39,53 @@ pub enum LineFault {
     /// No kernel of that name is loaded.
     #[error("no kernel of that name is loaded")]
     NotLoaded,
-    /// The loaded kernels give no table of leap seconds.
-    #[error("no table of leap seconds")]
-    NotBuilt,
-    /// The line is no UTC time from 1900-01-01 to 2100-01-01.
-    #[error("no UTC time from 1900-01-01 to 2100-01-01")]
+    /// The loaded kernels give the variable no value.
+    #[error("a variable is missing")]
+    NoVariable(Var),
+    /// The values of the variable are of another kind than they must be.
+    #[error("a variable of the wrong kind")]
+    WrongKind(Var),
+    /// `SPACECRAFT_ID` is not one whole number from -999,999,999 to -1.
+    #[error("no id of a spacecraft")]
+    BadId,
+    /// The values of `DELTET/DELTA_AT` are no table of leap seconds.
+    #[error("no table of leap seconds: {0}")]
+    BadLeaps(LeapFault),
+    /// The values of the `DELTET` variables are no constants of the scales.
+    #[error("no constants of the scales: {0}")]
+    BadDeltet(DeltetFault),
+    /// The values of the variables of the clock with the id `-n` are no clock.
+    #[error("no clock: {var:?}, {why:?}")]
+    BadClock { var: ClockVar, why: ClockWhy, n: u32 },
+    /// The text has none of the forms of a time.
+    #[error("no time")]
     BadTime,
+    /// The text names another system than the source.
+    #[error("a time of another system")]
+    WrongSystem,
+    /// The calendar has no such day.
+    #[error("no such day")]
+    NoSuchDay,
+    /// The time lies before 1900-01-01 00:00 or after 2100-01-01 00:00.
+    #[error("out of range")]
+    OutOfRange,
+    /// The day has no such second.
+    #[error("no such second")]
+    NoSuchSecond,
+    /// The text is no string of the clock, or no tick of it.
+    #[error("no clock string: {0}")]
+    BadClockText(ClockTextFault),
+    /// The time or the tick is before the clock's first record.
+    #[error("before the clock")]
+    BeforeClock,
+    /// The time is behind the clock's last partition.
+    #[error("after the clock")]
+    AfterClock,
+    /// Two times around the exact one, at most 10^-12 s apart, print differently.
+    #[error("undecided")]
+    Undecided,
     /// Memory was refused. No line is refused so: a run then ends with
     /// [`Status::OutOfMemory`](crate::Status::OutOfMemory).
-    #[error("out of memory")]
-    OutOfMemory,
-}
-
-/// Why the file of a name isn't loaded.
-#[derive(Clone, Copy, Debug, PartialEq, Eq, Error)]
-pub enum KernelFault {
-    /// There is no file of that name.
-    #[error("no such file")]
-    NoFile,
-    /// The file could not be opened, or its read failed.
-    #[error("the file could not be read")]
-    FileFault,
-    /// The file has more than 16,777,216 bytes.
-    #[error("a file of more than 16,777,216 bytes")]
-    FileTooLong,
-    /// The file is no text kernel: the line, from 1, and what breaks there.
-    #[error("no text kernel, by its line {line}")]
-    KernelText { line: u64, cause: TextCause },
-    /// 1,000 kernels are loaded.
-    #[error("1,000 kernels are loaded")]
-    TooManyKernels,
-    /// The values of the loaded kernels and of this one are more than 2,000,000.
-    #[error("more than 2,000,000 values")]
-    TooManyValues,
-    /// Memory was refused.
     #[error("out of memory")]
     OutOfMemory,
 }
@@ -110,43 +104,6 @@ impl From<KernelFault> for LineFault {
             KernelFault::TooManyKernels => LineFault::TooManyKernels,
             KernelFault::TooManyValues => LineFault::TooManyValues,
             KernelFault::OutOfMemory => LineFault::OutOfMemory,
-        }
-    }
-}
-
-impl From<OutOfMemory> for KernelFault {
-    ghost use Rattle.st_batch.specs.declared.fault.KernelFault.TheVariants as fault;
-
-    ghost from_gives = { λ _ e. e ≡ fault.OutOfMemory };
-
-    fn from(_error: OutOfMemory) -> KernelFault {
-        KernelFault::OutOfMemory
-    }
-}
-
-impl From<TextFault> for KernelFault {
-    ghost use Rattle.st_batch.specs.Load.{fault_of_text};
-
-    ghost from_gives = { λ fault e. e ≡ fault_of_text fault };
-
-    fn from(fault: TextFault) -> KernelFault {
-        match fault {
-            TextFault::At { line, cause } => KernelFault::KernelText { line, cause },
-            TextFault::OutOfMemory => KernelFault::OutOfMemory,
-        }
-    }
-}
-
-impl From<LoadFault> for KernelFault {
-    ghost use Rattle.st_batch.specs.Load.{fault_of_pool};
-
-    ghost from_gives = { λ fault e. e ≡ fault_of_pool fault };
-
-    fn from(fault: LoadFault) -> KernelFault {
-        match fault {
-            LoadFault::TooManyKernels => KernelFault::TooManyKernels,
-            LoadFault::TooManyValues => KernelFault::TooManyValues,
-            LoadFault::OutOfMemory => KernelFault::OutOfMemory,
         }
     }
 }

@@ -10,7 +10,7 @@ ghost use Rattle.st_batch.specs.Outcome.{HasNoFeed, IsAnswered, LinesOutcome, To
 ghost use Rattle.st_batch.specs.WordsMachine.{work_of};
 
 use crate::answering::Answering;
-use crate::job::Work;
+use st_words::Work;
 use crate::session::Session;
 use crate::status::{Status, stopped_by};
 use st_decimal::{Line, OutOfMemory};

@@ -25,7 +25,7 @@ mod write;
 
 pub use crate::answer::{Answer, put_refusal};
 pub use crate::fault::{LineFault, WordFault};
-pub use crate::job::{Job, Work};
+pub use st_words::{Job, Work};
 pub use crate::session::Session;
 pub use crate::status::Status;
 pub use crate::top::run;

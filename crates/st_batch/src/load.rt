@@ -9,7 +9,7 @@ ghost use Rattle.st_batch.specs.Load.{BytesGive, HasFile, LoadGives, line_fault}
 ghost use Rattle.st_batch.specs.LoadSteps.{BytesRefuse, IsRest, RestRefuses};
 ghost use Rattle.st_batch.specs.Setting.{Loaded};
 
-use crate::fault::KernelFault;
+use crate::kernel_fault::KernelFault;
 use st_kernel_text::read_kernel;
 use st_outside::{Files, OpenFault};
 use st_pool::Pool;

@@ -8,30 +8,32 @@ ghost use Rattle.st_batch.specs.Commands.{IsNoLoad, begins_command};
 ghost use Rattle.st_batch.specs.Session.{MayAnswer, TextGives};
 ghost use Rattle.st_batch.specs.Setting.{setting};
 ghost use Rattle.st_batch.specs.Setup.{SetupGives};
-ghost use Rattle.st_batch.specs.declared.job.Job.{Job};
+ghost use Rattle.st_words.specs.declared.job.Job.{Job};
 
-use crate::answer::Answer;
+use crate::answer::{Answer, time_answer};
 use crate::command::{answer_command, is_command};
-use crate::convert::answer_time;
 use crate::fault::LineFault;
-use crate::job::Job;
-use crate::load::load_file;
+use crate::setup::open_setup;
 use st_decimal::OutOfMemory;
 use st_outside::Files;
 use st_pool::Pool;
+use st_tables::Tables;
 use st_text::trim;
+use st_words::Job;
 use std::alloc::Global;
 use std::marker::Model;
 
 /// The most bytes that a line may have.
 pub const MAX_LINE: usize = 1000;
 
-/// A job and the kernels that are loaded between two lines. Contracts see both, the kernels as the loaded list.
+/// A job and the kernels that are loaded between two lines, with the tables that they gave last. Contracts see the
+/// job and the kernels, as the loaded list: what tables are kept changes no answer.
 #[derive(Debug, Drop)]
 pub struct Session {
     alloc: Global,
     job: Job,
     pool: Pool,
+    tables: Tables,
 }
 
 impl Model for Session {
@@ -40,6 +42,8 @@ impl Model for Session {
     ghost Value = { State };
 
     ghost view = { λ s. record { job = s.job; loaded = s.pool } };
+
+    ghost invariant = { λ s. IsReady s.job };
 }
 
 impl Session {

@@ -7,13 +7,13 @@ ghost use Rattle.st_batch.specs.Limits.{most_input_bytes};
 ghost use Rattle.st_batch.specs.Outcome.{IsAnswered, Outcome, ReadsNothing, Took, around};
 ghost use Rattle.st_batch.specs.OutputSteps.{Delivers, IsCut};
 ghost use Rattle.st_batch.specs.Texts as texts;
-ghost use Rattle.st_batch.specs.Words.{WordsGive};
+ghost use Rattle.st_words.specs.Reading.{WordsGive};
 ghost use Rattle.st_batch.specs.declared.status.Status.TheVariants.{BadSetup, BadWords};
 
 use crate::answer::{put_refused, put_words_refused};
 use crate::fault::{LineFault, WordFault};
 use crate::input::answer_lines;
-use crate::job::Job;
+use st_words::Job;
 use crate::session::Session;
 use crate::status::{Status, stopped_by};
 use crate::words::read_words;

@@ -1,0 +1,46 @@
+//! The setup of a job: the kernels that its file names, and the clock.
+
+ghost use Rattle.std.specs.Prelude.{◌≡◌, ◌≢◌, [], false, Ok, Err, IfOk, IfErr, OnOk, OnErr};
+ghost use Rattle.st_outside.specs.States.{KeepsFiles};
+ghost use Rattle.st_batch.specs.Causes.{IsCaused};
+ghost use Rattle.st_batch.specs.Load.{LoadGives, line_fault};
+ghost use Rattle.st_batch.specs.Setup.{Begins, ClockGives, LoadsGive, SetupGives, asks_clock};
+
+use crate::fault::LineFault;
+use crate::kernel_fault::KernelFault;
+use crate::load::load_file;
+use st_decimal::{KText, NameList};
+use st_outside::Files;
+use st_pool::Pool;
+use st_words::{Job, setup_clock, setup_files};
+use std::alloc::Global;
+
+/// Loads the files of these names one after the other, each under its own name.
+fn load_files<F: Files>(
+    alloc: Global,
+    pool: &mut Pool,
+    names: &[KText],
+    files: &mut F,
+) -> Result<(), KernelFault>
+    ensures ok { OnOk result (LoadsGive (F.state files.old).map pool.old names.now (Ok pool.new)) }
+    ensures err { IfErr result (λ fault. fault ≢ KernelFault.OutOfMemory → LoadsGive (F.state files.old).map pool.old names.now (Err fault)) }
+    ensures cause { IfErr result (λ fault. IsCaused (line_fault fault) (F.state files.old).counts (F.state files.new).counts) }
+    ensures closed { (F.state files.old).opened ≡ false → (F.state files.new).opened ≡ false }
+    ensures files { KeepsFiles (F.state files.old) (F.state files.new) }
+{
+    for name in names {
+        load_file(alloc, pool, name.as_slice(), files)?;
+    }
+    Ok(())
+}
+
+/// The job with its clock: the one of the words, or the one that the loaded kernels name.
+fn find_clock(job: Job, pool: &Pool) -> Result<Job, IdFault>
+    ensures { ClockGives (asks_clock job) job pool.now result }
+{
+    let mut job = job;
+    if has_clock(&job) && job.clock.is_none() {
+        job.clock = Some(setup_clock(pool)?);
+    }
+    Ok(job)
+}
