@@ -1,9 +1,9 @@
 -- The lines of a file that is cut at the end of a line, or within one.
-use Rattle.std.proofs.Common.{inl, inr, ◌⊎◌, ◌≡◌, ℕ, ◌+◌, ◌<◌, ◌≤◌, Bool, true, false, List, [], ◌∷◌, ◌++◌, length, refl, sym, ◌∙◌, ap, arith, subst, append_assoc, length-append}
+use Rattle.std.proofs.Common.{inl, inr, ◌≡◌, ℕ, ◌+◌, ◌<◌, ◌≤◌, Bool, true, false, List, [], ◌∷◌, ◌++◌, length, refl, sym, ◌∙◌, ap, arith, subst, append_assoc, length-append}
 use Rattle.std.specs.Prelude.{◌==◌, ◌-◌, ◌&&◌, nat_lt, take, slice_index, if◌then◌else◌}
 use Rattle.std.specs.List.{list_all, slice_split, All}
 use Rattle.std.proofs.Math.Seq.{get_or-append_seam}
-use Rattle.std.proofs.lemmas.Bool.{cases_Bool, cond-true, cond-false, eqb-true, and_parts, and_from, lt-ltb, ltb-true, ltb-false}
+use Rattle.std.proofs.lemmas.Bool.{cases_Bool, eqb-true, and_parts, and_from, lt-ltb, ltb-true, ltb-false}
 use Rattle.std.proofs.lemmas.Bool.Decides.{nat_tests}
 use Rattle.std.proofs.lemmas.List.{append-nil, length-take-le}
 use Rattle.std.proofs.lemmas.List.Elements.{All-nil, All-cons}

@@ -1,17 +1,16 @@
 -- What a reader of pieces answers is what the bytes that it was fed give, however they are cut.
-use Rattle.std.proofs.Common.{inl, inr, ◌⊎◌, ◌≡◌, ℕ, ◌+◌, ◌<◌, ◌≤◌, List, [], ◌∷◌, ◌++◌, length, Option, Some, None, Result, Ok, Err, IfErr, refl, ap, sym, ◌∙◌, subst, arith}
+use Rattle.std.proofs.Common.{inl, inr, ◌⊎◌, ◌≡◌, ℕ, ◌+◌, ◌<◌, List, [], ◌++◌, length, Option, Some, None, Result, Ok, Err, IfErr, refl, ap, sym, ◌∙◌, subst, arith}
 use Rattle.std.specs.Prelude.{◌==◌}
 use Rattle.std.proofs.lemmas.Bool.{cases_Bool, cond-true, cond-false, eqb-true, eqb-false}
 use Rattle.std.proofs.lemmas.List.{append-nil}
 use Rattle.st_text.specs.Lines.{without_cr, lines_of}
 use Rattle.st_text.proofs.Splits.{lines_of-nil}
 use Rattle.st_kernel_text.specs.Fault.{Fault, fails}
-use Rattle.st_kernel_text.specs.Faults.{Row}
 use Rattle.st_kernel_text.specs.File.{Reads, Agree}
 use Rattle.st_kernel_text.specs.LinesMachine as lines
 use Rattle.st_kernel_text.specs.LinesMachine.{line_of, lines_from, read_of}
 use Rattle.st_kernel_text.specs.ParserMachine.{◌>>=◌, Gives, Answers, finish_of}
-use Rattle.st_kernel_text.specs.Pieces.{IsEnded, HasNoFeed, GoesOn, HasNoFaultYet, EndsTooLong, FailsAtEnd, HasFaultYet, ReadsSoFar, fault_of}
+use Rattle.st_kernel_text.specs.Pieces.{IsEnded, HasNoFeed, GoesOn, HasNoFaultYet, FailsAtEnd, HasFaultYet, ReadsSoFar, fault_of}
 use Rattle.st_kernel_text.specs.PiecesMachine.{reading, beginning, bytes_of, last_of, end_of, fed_of}
 use Rattle.st_kernel_text.specs.Reader.{FedTo}
 use Rattle.st_kernel_text.specs.declared.assignment.Assignment.{Assignment}
@@ -20,7 +19,7 @@ use Rattle.st_kernel_text.specs.declared.fault.TextFault.{TextFault}
 use Rattle.st_kernel_text.specs.declared.fault.TextFault.TheVariants.{At, OutOfMemory}
 use Rattle.st_kernel_text.specs.declared.kernel.Kernel.{Kernel}
 use Rattle.st_kernel_text.specs.declared.lines.Reading.{Reading}
-use Rattle.st_kernel_text.proofs.FileLaws.{lines_fail, lines_go_on, lines_are_good, lines_have_fault, reads, only, one_answer}
+use Rattle.st_kernel_text.proofs.FileLaws.{lines_fail, lines_go_on, lines_are_good, lines_have_fault, reads, one_answer}
 use Rattle.st_kernel_text.proofs.LineEnds.{no_feed_left, none_ended, none_begun, lines_alone, stays_long}
 use Rattle.st_kernel_text.proofs.PieceSteps.{bytes-append, fails_on, IsShort, short_none, long_fault, rest_of, begins_long, reads_on, nothing_read, Reached, reached, FailedLine, FailedBegun, Broke, broke}
 

@@ -1,18 +1,18 @@
 -- What the bytes of a file give one by one is what its lines give.
-use Rattle.std.proofs.Common.{inl, inr, ◌⊎◌, ◌≡◌, ℕ, ◌+◌, ◌<◌, ◌≤◌, Bool, true, false, List, [], ◌∷◌, ◌++◌, length, Result, Ok, Err, refl, ap, sym, ◌∙◌, subst, arith, append_assoc, length-append}
+use Rattle.std.proofs.Common.{inl, inr, ◌⊎◌, ◌≡◌, ℕ, ◌+◌, ◌<◌, ◌≤◌, true, false, List, [], ◌∷◌, ◌++◌, length, Result, Ok, Err, refl, ap, sym, ◌∙◌, subst, arith, append_assoc}
 use Rattle.std.specs.Prelude.{◌==◌, nat_lt}
 use Rattle.std.proofs.lemmas.Bool.{cases_Bool, cond-true, cond-false, eqb-true}
 use Rattle.std.proofs.lemmas.List.{append-nil}
 use Rattle.st_text.specs.Lines.{without_cr, lines_of}
-use Rattle.st_kernel_text.specs.Fault.{Fault, fails}
+use Rattle.st_kernel_text.specs.Fault.{Fault}
 use Rattle.st_kernel_text.specs.LinesMachine.{line_of, lines_from}
 use Rattle.st_kernel_text.specs.ParserMachine.{◌>>=◌}
 use Rattle.st_kernel_text.specs.Pieces.{IsEnded, HasNoFeed}
-use Rattle.st_kernel_text.specs.PiecesMachine.{reading, most_before, begun_of, ended_of, byte_of, bytes_of}
+use Rattle.st_kernel_text.specs.PiecesMachine.{reading, most_before, ended_of, byte_of, bytes_of}
 use Rattle.st_kernel_text.specs.declared.fault.TextCause.TheVariants.{LineTooLong}
 use Rattle.st_kernel_text.specs.declared.kernel.Kernel.{Kernel}
 use Rattle.st_kernel_text.specs.declared.lines.Reading.{Reading}
-use Rattle.st_kernel_text.proofs.LineEnds.{no_feed_more, no_feed_left, none_ended, none_begun, ended_more, lines_none, lines_first, lines_alone, first_line, counts_most, stays_long, fills, fits, onto_begun}
+use Rattle.st_kernel_text.proofs.LineEnds.{no_feed_more, ended_more, lines_none, lines_first, first_line, counts_most, stays_long, fills, fits, onto_begun}
 use Rattle.st_kernel_text.proofs.LineLaws.{long_line}
 
 -- bytes in a row

@@ -1,5 +1,5 @@
 -- The reader of a file's bytes as functions on lists: each is the twin of a function of the code.
-use Rattle.std.specs.Prelude.{ℕ, ◌+◌, List, [], ◌∷◌, ◌++◌, length, ◌==◌, nat_lt, Result, Ok, Err, if◌then◌else◌}
+use Rattle.std.specs.Prelude.{ℕ, ◌+◌, List, [], ◌∷◌, ◌++◌, length, ◌==◌, nat_lt, Result, Ok, if◌then◌else◌}
 use Rattle.st_text.specs.Lines.{without_cr}
 use Rattle.st_kernel_text.specs.Fault.{Fault, fails}
 use Rattle.st_kernel_text.specs.LinesMachine as lines

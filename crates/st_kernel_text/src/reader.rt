@@ -58,10 +58,10 @@ impl KernelReader {
     ///
     /// # Errors
     ///
-    /// The first fault that the bytes so far have, however they go on, and its line: in a line that
-    /// a line feed has ended, or since the line that is begun has more than 1,000 bytes, a carriage
-    /// return at its end not counted. `OutOfMemory` where memory is refused. From then on the reader
-    /// answers the same, here and in `finish`.
+    /// The first fault that the file has however it goes on, and its line: one in a line that a line
+    /// feed has ended, or that the line which is begun has more than 1,000 bytes, where a carriage
+    /// return as its last byte isn't counted. `OutOfMemory` where memory is refused. From then on
+    /// the reader answers the same, here and in `finish`.
     pub fn feed(&mut self, piece: &[u8]) -> Result<(), TextFault>
         requires few { self.old.count + length piece.now < 2 ^ 63 }
         ensures count { self.new.count ≡ self.old.count + length piece.now }
