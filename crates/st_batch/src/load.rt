@@ -1,16 +1,16 @@
 //! Loading a file by its name.
 
-ghost use Rattle.std.specs.Prelude.{◌≡◌, ◌≢◌, ◌≤◌, true, false, length, Ok, Err, IfOk, IfErr, OnOk, OnErr};
+ghost use Rattle.std.specs.Prelude.{◌≡◌, ◌≢◌, [], true, false, Ok, Err, IfOk, IfErr, OnOk, OnErr};
 ghost use Rattle.st_outside.specs.Causes.{AreLater};
 ghost use Rattle.st_outside.specs.States.{KeepsFiles};
+ghost use Rattle.st_kernel_text.specs.Reader.{Fed};
 ghost use Rattle.st_batch.specs.Causes.{IsCaused};
-ghost use Rattle.st_batch.specs.Limits.{most_file_bytes};
-ghost use Rattle.st_batch.specs.Load.{BytesGive, HasFile, LoadGives, line_fault};
-ghost use Rattle.st_batch.specs.LoadSteps.{BytesRefuse, IsRest, RestRefuses};
+ghost use Rattle.st_batch.specs.Load.{LoadGives, line_fault};
+ghost use Rattle.st_batch.specs.LoadSteps.{FedRest, FileReads, RestReads, RestRefuses, Stops};
 ghost use Rattle.st_batch.specs.Setting.{Loaded};
 
 use crate::kernel_fault::KernelFault;
-use st_kernel_text::read_kernel;
+use st_kernel_text::{AssignmentList, KernelReader};
 use st_outside::{Files, OpenFault};
 use st_pool::Pool;
 use std::alloc::Global;
@@ -39,25 +39,18 @@ pub fn load_file<F: Files>(
     ensures closed { (F.state files.new).opened ≡ false }
     ensures files { KeepsFiles (F.state files.old) (F.state files.new) }
 {
-    let bytes = read_file(alloc, name, files)?;
-    load_bytes(alloc, pool, name, bytes.as_slice())
-}
-
-/// Loads the bytes of a file behind all kernels of the pool, under this name.
-fn load_bytes(alloc: Global, pool: &mut Pool, name: &[u8], bytes: &[u8]) -> Result<(), KernelFault>
-    ensures ok { OnOk result (BytesGive bytes.now pool.old name.now (Ok pool.new)) }
-    ensures err { IfErr result (BytesRefuse bytes.now pool.old name.now) }
-    ensures refused { OnErr result (pool.new ≡ pool.old) }
-{
-    let assignments = read_kernel(alloc, bytes)?;
+    let assignments = read_file(alloc, name, files)?;
     pool.load(name, assignments)?;
     Ok(())
 }
 
-/// The bytes of the file of this name, which has at most `MAX_FILE`. No file is open afterwards.
-fn read_file<F: Files>(alloc: Global, name: &[u8], files: &mut F) -> Result<Vec<u8>, KernelFault>
-    ensures ok { IfOk result (λ bytes. HasFile (F.state files.old).map name.now bytes.items) }
-    ensures few { IfOk result (λ bytes. length bytes.items ≤ most_file_bytes) }
+/// The assignments of the file of this name, which has at most `MAX_FILE` bytes. No file is open afterwards.
+fn read_file<F: Files>(
+    alloc: Global,
+    name: &[u8],
+    files: &mut F,
+) -> Result<AssignmentList, KernelFault>
+    ensures ok { IfOk result (λ list. FileReads (F.state files.old).map name.now (Ok list)) }
     ensures err { IfErr result (λ fault. fault ≢ KernelFault.OutOfMemory
         → (loaded : Loaded) → LoadGives (F.state files.old).map loaded name.now (Err fault)) }
     ensures cause { IfErr result (λ fault. IsCaused (line_fault fault) (F.state files.old).counts (F.state files.new).counts) }
@@ -71,28 +64,48 @@ fn read_file<F: Files>(alloc: Global, name: &[u8], files: &mut F) -> Result<Vec<
             OpenFault::OutOfMemory => KernelFault::OutOfMemory,
         });
     }
-    let bytes = read_open(alloc, files);
+    let assignments = read_open(alloc, files);
     files.close();
-    bytes
+    assignments
 }
 
-/// The rest of the open file, which has at most `MAX_FILE` bytes.
-fn read_open<F: Files>(alloc: Global, files: &mut F) -> Result<Vec<u8>, KernelFault>
+/// The assignments of the rest of the open file, which has at most `MAX_FILE` bytes.
+fn read_open<F: Files>(alloc: Global, files: &mut F) -> Result<AssignmentList, KernelFault>
     requires { (F.state files.old).opened ≡ true }
-    ensures ok { IfOk result (λ bytes. IsRest (F.state files.old).left bytes.items) }
-    ensures few { IfOk result (λ bytes. length bytes.items ≤ most_file_bytes) }
+    ensures ok { IfOk result (λ list. RestReads (F.state files.old).left (Ok list)) }
     ensures err { IfErr result (RestRefuses (F.state files.old).left) }
     ensures cause { IfErr result (λ fault. IsCaused (line_fault fault) (F.state files.old).counts (F.state files.new).counts) }
     ensures map { (F.state files.new).map ≡ (F.state files.old).map }
     ensures misses { (F.state files.new).counts.misses ≡ (F.state files.old).counts.misses }
     ensures later { AreLater (F.state files.old).counts (F.state files.new).counts }
 {
-    let mut bytes = Vec::new(alloc);
+    let mut reader = KernelReader::new(alloc);
+    feed_open(&mut reader, files)?;
+    Ok(reader.finish()?)
+}
+
+/// Feeds the reader the rest of the open file, which has at most `MAX_FILE` bytes. The file is read to its end also
+/// where its text has a fault, since a fault of the file comes first: the reader answers its own at the end.
+fn feed_open<F: Files>(reader: &mut KernelReader, files: &mut F) -> Result<(), KernelFault>
+    requires opened { (F.state files.old).opened ≡ true }
+    requires fed { Fed [] reader.old }
+    requires count { reader.old.count ≡ 0 }
+    ensures ok { OnOk result (FedRest (F.state files.old).left reader.new) }
+    ensures err { IfErr result (Stops (F.state files.old).left) }
+    ensures cause { IfErr result (λ fault. IsCaused (line_fault fault) (F.state files.old).counts (F.state files.new).counts) }
+    ensures map { (F.state files.new).map ≡ (F.state files.old).map }
+    ensures misses { (F.state files.new).counts.misses ≡ (F.state files.old).counts.misses }
+    ensures later { AreLater (F.state files.old).counts (F.state files.new).counts }
+{
     let mut buf = [0u8; PIECE];
-    while bytes.len() <= MAX_FILE {
+    let mut read = 0;
+    while read <= MAX_FILE {
         match files.read(&mut buf) {
-            Ok(0) => return Ok(bytes),
-            Ok(count) => bytes.extend_from_slice(&buf[..count])?,
+            Ok(0) => return Ok(()),
+            Ok(count) => {
+                let _ = reader.feed(&buf[..count]);
+                read += count;
+            }
             Err(_) => return Err(KernelFault::FileFault),
         }
     }

@@ -75,19 +75,23 @@ reads_forced bytes list h =
     finished (lines_of bytes) (fresh list) h.good
     (ap (steps_of start) (sym (append-nil (data_of_lines (lines_of bytes)))) ∙ all_read [] list (data_of_lines (lines_of bytes)) [] h.spells)
 
-line_forced : (bytes : List ℕ) (n : ℕ) (cause : TextCause) → HasBadLine bytes n cause → read_of bytes ≡ fails n cause
-line_forced bytes n cause h =
+line_fails : (bytes : List ℕ) (n : ℕ) (cause : TextCause) → HasBadLine bytes n cause → lines_from (kernel start false) 1 (lines_of bytes) ≡ fails n cause
+line_fails bytes n cause h =
     let on = row_read h.row (data_of_lines h.front) h.stands in
-    failed (lines_of bytes) (record { line = n; cause = cause })
-    (ap (lines_from (kernel start false) 1) h.whole
+    ap (lines_from (kernel start false) 1) h.whole
     ∙ front_then_bad on.state h.front h.more h.line cause h.good on.is h.bad
-    ∙ ap (λ (m : ℕ). fails m cause) (sym h.number))
+    ∙ ap (λ (m : ℕ). fails m cause) (sym h.number)
+
+token_fails : (bytes : List ℕ) (n : ℕ) (cause : TextCause) → HasBadToken bytes n cause → lines_from (kernel start false) 1 (lines_of bytes) ≡ fails n cause
+token_fails bytes n cause h =
+    ap (lines_from (kernel start false) 1) h.whole
+    ∙ front_fails (record { line = n; cause = cause }) h.front h.more h.good (fault_forced (data_of_lines h.front) n cause (stopped_fault (data_of_lines h.front) n cause (data_lines false 1 h.front) h.fault))
+
+line_forced : (bytes : List ℕ) (n : ℕ) (cause : TextCause) → HasBadLine bytes n cause → read_of bytes ≡ fails n cause
+line_forced bytes n cause h = failed (lines_of bytes) (record { line = n; cause = cause }) (line_fails bytes n cause h)
 
 token_forced : (bytes : List ℕ) (n : ℕ) (cause : TextCause) → HasBadToken bytes n cause → read_of bytes ≡ fails n cause
-token_forced bytes n cause h =
-    failed (lines_of bytes) (record { line = n; cause = cause })
-    (ap (lines_from (kernel start false) 1) h.whole
-    ∙ front_fails (record { line = n; cause = cause }) h.front h.more h.good (fault_forced (data_of_lines h.front) n cause (stopped_fault (data_of_lines h.front) n cause (data_lines false 1 h.front) h.fault)))
+token_forced bytes n cause h = failed (lines_of bytes) (record { line = n; cause = cause }) (token_fails bytes n cause h)
 
 unfinished_forced : (row : Row) (t : Data) (n : ℕ) (cause : TextCause) → Stands row t [] → IsUnfinished row n cause
     → (p : Parser) × ((steps_of start t ≡ Ok p) × (finish_of p ≡ fails n cause))
@@ -122,6 +126,21 @@ pub forced : (bytes : List ℕ) (n : ℕ) (cause : TextCause) → HasBadLine byt
 forced bytes n cause (inl h) = line_forced bytes n cause h
 forced bytes n cause (inr (inl h)) = token_forced bytes n cause h
 forced bytes n cause (inr (inr h)) = end_forced bytes n cause h
+
+-- a fault other than of the end of the data comes from the lines
+pub lines_fail : (bytes : List ℕ) (n : ℕ) (cause : TextCause) → HasBadLine bytes n cause ⊎ HasBadToken bytes n cause
+    → lines_from (kernel start false) 1 (lines_of bytes) ≡ fails n cause
+lines_fail bytes n cause (inl h) = line_fails bytes n cause h
+lines_fail bytes n cause (inr h) = token_fails bytes n cause h
+
+-- lines without a fault are read
+pub lines_go_on : (row : Row) (lines : List (List ℕ)) → AreGood false lines → Stands row (data_of_lines lines) []
+    → (k : Kernel) × (lines_from (kernel start false) 1 lines ≡ Ok k)
+lines_go_on row lines good s =
+    let on = row_read row (data_of_lines lines) s in (
+      kernel on.state (reads_behind false lines),
+      good_lines start false 1 lines good ∙ ap (with (reads_behind false lines)) on.is,
+    )
 
 -- what the reader answers is what the file reads to, or its fault
 abbrev pub Is : List ℕ → Result (List Assignment) Fault → Type 0
@@ -180,6 +199,48 @@ by_lines bytes (inr b) =
 
 pub is_read : (bytes : List ℕ) → Is bytes (read_of bytes)
 is_read bytes = by_lines bytes (good_or_bad false (lines_of bytes))
+
+-- lines that are read have no fault
+pub record GoOn (lines : List (List ℕ)) : Type 0 where
+  pub row : Row
+  pub good : AreGood false lines
+  pub stands : Stands row (data_of_lines lines) []
+
+good_go_on : (lines : List (List ℕ)) (k : Kernel) → AreGood false lines → lines_from (kernel start false) 1 lines ≡ Ok k
+    → (r : Result Parser Fault) → steps_of start (data_of_lines lines) ≡ r → Outcomes [] (data_of_lines lines) r → Settles r → GoOn lines
+good_go_on lines k good e (Ok p) i h s =
+    let at = live_row (data_of_lines lines) p (went_all [] (data_of_lines lines) p h) (settled p s) in
+    record { row = at.row; good = good; stands = at.stands }
+good_go_on lines k good e (Err f) i h s =
+    let other : Ok k ≡ Err f = sym e ∙ ap (lines_from (kernel start false) 1) (sym (append-nil lines)) ∙ front_fails f lines [] good i in absurd (cc)
+
+bad_go_on : (lines : List (List ℕ)) (k : Kernel) → (b : FirstBad false lines) → lines_from (kernel start false) 1 lines ≡ Ok k
+    → (r : Result Parser Fault) → steps_of start (data_of_lines b.front) ≡ r → GoOn lines
+bad_go_on lines k b e (Ok p) i =
+    let other : Ok k ≡ fails (1 + length b.front) b.cause =
+    sym e ∙ ap (lines_from (kernel start false) 1) b.whole ∙ front_then_bad p b.front b.more b.line b.cause b.good i b.bad in absurd (cc)
+bad_go_on lines k b e (Err f) i =
+    let other : Ok k ≡ Err f = sym e ∙ ap (lines_from (kernel start false) 1) b.whole ∙ front_fails f b.front (b.line ∷ b.more) b.good i in absurd (cc)
+
+pub lines_are_good : (lines : List (List ℕ)) (k : Kernel) → lines_from (kernel start false) 1 lines ≡ Ok k → GoOn lines
+lines_are_good lines k e =
+    elim (good_or_bad false lines) [
+      | inl good ↦ good_go_on lines k good e _ refl (live_steps [] (data_of_lines lines) start begun) (lines_leave start false 1 lines refl)
+      | inr b ↦ bad_go_on lines k b e _ refl
+    ]
+
+-- lines that aren't read have a fault
+not_at_end : (bytes : List ℕ) (f : Fault) → lines_from (kernel start false) 1 (lines_of bytes) ≡ Err f → Is bytes (Err f)
+    → HasBadLine bytes f.line f.cause ⊎ HasBadToken bytes f.line f.cause
+not_at_end bytes f e (inl h) = inl h
+not_at_end bytes f e (inr (inl h)) = inr h
+not_at_end bytes f e (inr (inr h)) =
+    let went = lines_go_on h.row (lines_of bytes) h.good h.stands in
+    let other : Ok went.0 ≡ Err f = sym went.1 ∙ e in absurd (cc)
+
+pub lines_have_fault : (bytes : List ℕ) (f : Fault) → lines_from (kernel start false) 1 (lines_of bytes) ≡ Err f
+    → HasBadLine bytes f.line f.cause ⊎ HasBadToken bytes f.line f.cause
+lines_have_fault bytes f e = not_at_end bytes f e (subst (Is bytes) (failed (lines_of bytes) f e) (is_read bytes))
 
 -- the answer of the reader is one that the file allows, and only that
 pub reads : (bytes : List ℕ) (r : Result (List Assignment) TextFault) → Answers r (read_of bytes) → Reads bytes r

@@ -4,6 +4,7 @@ pub mod FileLaws
 pub mod Forced
 pub mod Grows
 pub mod Heads
+pub mod LineEnds
 pub mod LineLaws
 pub mod Live
 pub mod LiveLists
@@ -11,12 +12,13 @@ pub mod LiveNames
 pub mod LiveSigns
 pub mod LiveTokens
 pub mod LiveValues
+pub mod PieceLaws
+pub mod PieceSteps
 pub mod PlainNames
 pub mod PlainScan
 pub mod PlainTable
 pub mod PlainValues
 pub mod ReadAll
-pub mod ReadLines
 pub mod ReadValues
 pub mod Rows
 pub mod Runs

@@ -107,7 +107,7 @@ Reads bytes (Err (At n cause)) = HasBadLine bytes n cause ⊎ (HasBadToken bytes
 Reads bytes (Err OutOfMemory) = ⊤
 
 -- two answers are one, where memory was not refused to either
-abbrev pub Agree : Result (List Assignment) TextFault → Result (List Assignment) TextFault → Type 0
+abbrev pub Agree : {A : Type 0} → Result A TextFault → Result A TextFault → Type 0
 Agree (Err OutOfMemory) b = ⊤
 Agree a (Err OutOfMemory) = ⊤
 Agree a b = a ≡ b

@@ -7,5 +7,8 @@ pub mod Grammar
 pub mod Limits
 pub mod LinesMachine
 pub mod ParserMachine
+pub mod Pieces
+pub mod PiecesMachine
+pub mod Reader
 pub mod ValueMachine
 pub mod Values

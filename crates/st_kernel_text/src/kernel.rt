@@ -17,7 +17,7 @@ use st_text::{are_blanks, skip_blanks};
 use std::alloc::Global;
 
 /// The most bytes of a line, without its end.
-const MOST_BYTES: usize = 1000;
+pub const MOST_BYTES: usize = 1000;
 
 /// What the lines so far have given.
 #[derive(Debug, Drop)]

@@ -11,9 +11,11 @@ mod assignment;
 mod bytes;
 mod fault;
 mod kernel;
+mod lines;
 mod names;
 mod number;
 mod parser;
+mod reader;
 mod reading;
 mod steps;
 mod value;
@@ -21,5 +23,6 @@ mod values;
 
 pub use assignment::{Assignment, AssignmentList, Mode};
 pub use fault::{TextCause, TextFault};
+pub use reader::KernelReader;
 pub use reading::read_kernel;
 pub use value::{Value, ValueList};

@@ -1,17 +1,13 @@
 //! A whole file.
 
-ghost use Rattle.std.specs.Prelude.{◌≡◌, List, Result};
-ghost use Rattle.st_text.specs.Lines.{lines_of};
+ghost use Rattle.std.specs.Prelude.{List, Result};
 ghost use Rattle.st_kernel_text.specs.File.{Reads, Agree};
-ghost use Rattle.st_kernel_text.specs.LinesMachine.{read_of, lines_from};
-ghost use Rattle.st_kernel_text.specs.ParserMachine.{Answers, Gives};
 ghost use Rattle.st_kernel_text.specs.declared.assignment.Assignment.{Assignment as Item};
 ghost use Rattle.st_kernel_text.specs.declared.fault.TextFault.{TextFault as Fault};
 
 use crate::assignment::AssignmentList;
 use crate::fault::TextFault;
-use crate::kernel::{Kernel, read_line};
-use st_text::{split_line, without_cr};
+use crate::reader::KernelReader;
 use std::alloc::Global;
 
 /// Reads a text kernel: the assignments of its data in order.
@@ -28,30 +24,9 @@ pub fn read_kernel(alloc: Global, bytes: &[u8]) -> Result<AssignmentList, TextFa
     ensures reads { Reads bytes.now result }
     ensures only { (answer : Result (List Item) Fault) → Reads bytes.now answer → Agree result answer }
 {
-    read(alloc, bytes)
-}
-
-fn read(alloc: Global, bytes: &[u8]) -> Result<AssignmentList, TextFault>
-    ensures { Answers result (read_of bytes.now) }
-{
-    let mut kernel = Kernel::new(alloc);
-    read_lines(&mut kernel, bytes)?;
-    kernel.parser.finish()
-}
-
-/// Reads all lines of a file.
-fn read_lines(kernel: &mut Kernel, bytes: &[u8]) -> Result<(), TextFault>
-    ensures { Gives kernel.new result (lines_from kernel.old 1 (lines_of bytes.now)) }
-{
-    let mut number = 1;
-    let mut rest = bytes;
-    while !rest.is_empty() {
-        let (line, after) = split_line(rest);
-        read_line(kernel, number, without_cr(line))?;
-        number += 1;
-        rest = after;
-    }
-    Ok(())
+    let mut reader = KernelReader::new(alloc);
+    reader.feed(bytes)?;
+    reader.finish()
 }
 
 #[cfg(test)]

@@ -23,6 +23,10 @@ left_of f = safe.left_of f.files
 abbrev pub calls_of : MemFiles → Calls
 calls_of f = f.calls
 
+-- how many bytes a read gives at most
+abbrev pub most_of : MemFiles → ℕ
+most_of f = f.most
+
 -- how many names weren't found, how many calls failed, and how many bytes have been given
 abbrev pub counts_of : MemFiles → FileCounts
 counts_of f = record { misses = f.files.misses; faults = f.calls.failed; taken = f.files.taken }

@@ -8,6 +8,10 @@ use Rattle.st_outside.specs.declared.mem_sink.MemSink.{MemSink}
 abbrev pub taken_by : MemSink → List ℕ
 taken_by s = safe.taken_by s.sink
 
+-- how many bytes a write takes at most
+abbrev pub most_of : MemSink → ℕ
+most_of s = s.most
+
 -- the writes so far, and those that fail
 abbrev pub calls_of : MemSink → Calls
 calls_of s = s.calls

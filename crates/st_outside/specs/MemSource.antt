@@ -17,6 +17,10 @@ taken_of s = safe.taken_of s.source
 abbrev pub calls_of : MemSource → Calls
 calls_of s = s.calls
 
+-- how many bytes a read gives at most
+abbrev pub most_of : MemSource → ℕ
+most_of s = s.most
+
 -- all that is told of the source
 abbrev pub state_of : MemSource → InputState
 state_of s = record { left = Some (rest_of s); faults = (calls_of s).failed; taken = taken_of s }

@@ -110,6 +110,12 @@ fn files_in_memory(rt: HostRuntime) -> Result<(), Fail> {
     assert_eq!(rt; buf, *b"other\0\0\0");
     files.close();
     assert_eq!(rt; files.open(b"three"), Err(OpenFault::Missing));
+
+    let mut files = MemFiles::short(two_files(rt.alloc())?, Vec::new(rt.alloc()), 3);
+    files.open(b"one")?;
+    for count in [3, 1, 0] {
+        assert_eq!(rt; files.read(&mut buf), Ok(count));
+    }
     Ok(())
 }
 
@@ -126,6 +132,11 @@ fn streams_in_memory(rt: HostRuntime) -> Result<(), Fail> {
     for answer in [Ok(2), Err(Failed), Ok(1), Ok(0)] {
         assert_eq!(rt; source.read(&mut buf), answer);
     }
+    let bytes = Vec::from_slice(rt.alloc(), b"ab")?;
+    let mut source = MemSource::short(bytes, Vec::new(rt.alloc()), 1);
+    for count in [1, 1, 0] {
+        assert_eq!(rt; source.read(&mut buf), Ok(count));
+    }
 
     let mut sink = SafeSink::new(rt.alloc());
     assert_eq!(rt; sink.write(b"ab"), Ok(2));
@@ -136,6 +147,9 @@ fn streams_in_memory(rt: HostRuntime) -> Result<(), Fail> {
         assert_eq!(rt; sink.write(b"ab"), answer);
     }
     assert_eq!(rt; sink.bytes(), b"abab".as_slice());
+    let mut sink = MemSink::short(rt.alloc(), Vec::new(rt.alloc()), 1);
+    assert_eq!(rt; sink.write(b"ab"), Ok(1));
+    assert_eq!(rt; sink.bytes(), b"a".as_slice());
     Ok(())
 }
 
