@@ -1,6 +1,6 @@
 -- The two default pictures: their pieces, and their texts as plain formulas.
-use Rattle.std.proofs.Common.{◌≡◌, ◌≢◌, ◌↔◌, ◌⊎◌, ℕ, ◌+◌, ◌-◌, ◌*◌, ◌/◌, ◌%◌, ◌^◌, ◌<◌, ◌≤◌, Bool, true, false, List, [], ◌∷◌, ◌++◌, length, Option, Some, None, Result, Ok, Err, inl, inr, refl, sym, ap, ◌∙◌, subst, arith, lit<, lit≤, ℤ, pos, negsuc, ◌+ℤ◌, ◌*ℤ◌, ◌≤ℤ◌, ◌<ℤ◌}
-use Rattle.std.specs.Prelude.{codes, position, unsigned_abs}
+use Rattle.std.proofs.Common.{◌≡◌, ◌≢◌, ◌↔◌, ◌⊎◌, ℕ, ◌+◌, ◌*◌, ◌/◌, ◌%◌, ◌^◌, ◌<◌, false, List, [], ◌∷◌, ◌++◌, Option, Ok, inl, inr, refl, sym, ap, ◌∙◌, subst, arith, lit<, lit≤, ℤ, pos, negsuc, ◌+ℤ◌, ◌*ℤ◌}
+use Rattle.std.specs.Prelude.{unsigned_abs}
 use Rattle.std.specs.List.{flat_map}
 use Rattle.std.proofs.lemmas.Int.{ints}
 use Rattle.st_text.specs.Bytes.{padded}
@@ -8,10 +8,9 @@ use Rattle.st_decimal.specs.Fixed.{fixed}
 use Rattle.st_dates.specs.declared.civil.Civil.{Civil}
 use Rattle.st_dates.specs.declared.system.System.{System}
 use Rattle.st_dates.specs.declared.system.System.TheVariants as systems
-use Rattle.st_fraction.specs.Fraction.{Fraction, ◌≤ᶠ◌, ◌<ᶠ◌, over, whole, units, ◌*ᶠ◌}
+use Rattle.st_fraction.specs.Fraction.{Fraction, ◌≤ᶠ◌, ◌<ᶠ◌, whole, units, ◌*ᶠ◌}
 use Rattle.st_fraction.specs.Floor.{IsFloor}
 use Rattle.st_fraction.proofs.Order.{le_f_cases, not_both_f}
-use Rattle.st_fraction.proofs.Ring.{ring, lin, numerals}
 use Rattle.st_leaps.specs.declared.table.LeapTable.{LeapTable}
 use Rattle.st_picture.specs.Cell.{IsTruncated, HasLabelCell, days_of, leaps_for}
 use Rattle.st_picture.specs.Defaults.{calendar_picture, seconds_picture, IsMillisOfDay, calendar_line, IsCalendarText, HasCalendarText, HasSecondsText}
@@ -19,17 +18,15 @@ use Rattle.st_picture.specs.Mark.{IsCut, IsLongest, spelled}
 use Rattle.st_picture.specs.Picture.{Picture, Stands}
 use Rattle.st_picture.specs.Printing.{HasText}
 use Rattle.st_picture.specs.Reading.{ReadsPicture}
-use Rattle.st_picture.specs.ReadingMachine.{front_of, is_bad_byte, tested}
+use Rattle.st_picture.specs.ReadingMachine.{front_of, tested}
 use Rattle.st_picture.specs.Text.{IsTimeOfDay, IsTextOf, seconds_text, shown_text}
 use Rattle.st_picture.specs.declared.cell.Cell.{Cell}
 use Rattle.st_picture.specs.declared.cell.Cell.TheVariants as cells
-use Rattle.st_picture.specs.declared.fault.PictureFault.{PictureFault}
 use Rattle.st_picture.specs.declared.fault.PictureFault.TheVariants.{CountInUtc}
 use Rattle.st_picture.specs.declared.mark.Mark.TheVariants.{Year, Month, DayOfMonth, Hour, Minute, Second, Seconds}
 use Rattle.st_picture.specs.declared.mark.Piece.{Piece}
 use Rattle.st_picture.specs.declared.mark.Piece.TheVariants.{Marked, Plain}
 use Rattle.st_picture.specs.declared.shown.Shown.{Shown}
-use Rattle.st_picture.specs.declared.unit.LeastUnit.{LeastUnit}
 use Rattle.st_picture.specs.declared.unit.LeastUnit.TheVariants as units
 use Rattle.st_picture.proofs.Counts.{count_below, below_of_count}
 use Rattle.st_picture.proofs.Cuts.{CutsTo, cut_is, end_nothing, one_cut}
@@ -121,7 +118,7 @@ line_of : (s : Shown) → flat_map (shown_text s) calendar_pieces ≡ calendar_l
 line_of s =
     let more = seconds_line s.second in
     λ i. padded 4 (unsigned_abs s.civil.year) ++ (45 ∷ (padded 2 s.civil.month ++ (45 ∷ (padded 2 s.civil.day
-        ++ (84 ∷ (padded 2 s.hour ++ (58 ∷ (padded 2 s.minute ++ (58 ∷ more i)))))))))
+    ++ (84 ∷ (padded 2 s.hour ++ (58 ∷ (padded 2 s.minute ++ (58 ∷ more i)))))))))
 
 millis_sum : (millis : ℤ) (h m n : ℕ) → millis *ℤ pos (10 ^ 15) ≡ pos ((h * 3_600 + m * 60) * 10 ^ 18 + n) → millis ≡ pos ((h * 60 + m) * 60_000 + n / 10 ^ 15)
 millis_sum (negsuc k) h m n e = absurd (omega (arith, ints))

@@ -1,19 +1,13 @@
 -- A cell has one text by a picture, and two ends have one answer.
-use Rattle.std.proofs.Common.{◌≡◌, ◌≢◌, ◌⊎◌, ℕ, ◌+◌, ◌*◌, ◌^◌, ◌<◌, ◌≤◌, Bool, List, [], ◌∷◌, ◌++◌, Option, Some, None, Result, Ok, Err, inl, inr, refl, sym, ap, ◌∙◌, subst, arith, lit<, ℤ, pos}
+use Rattle.std.proofs.Common.{◌≡◌, ◌⊎◌, ℕ, ◌+◌, ◌*◌, ◌^◌, ◌<◌, ◌≤◌, Bool, List, [], ◌∷◌, ◌++◌, Some, Result, Ok, Err, inl, inr, refl, sym, ap, ◌∙◌, subst, arith, lit<, ℤ, pos}
 use Rattle.std.specs.Prelude.{IfOk, take, unsigned_abs}
 use Rattle.std.specs.List.{flat_map}
-use Rattle.std.proofs.lemmas.Bool.{cases_lt}
 use Rattle.std.proofs.lemmas.Int.{ints}
-use Rattle.st_dates.specs.declared.civil.Civil.{Civil}
 use Rattle.st_dates.specs.declared.system.System.{System}
 use Rattle.st_dates.proofs.CivilLaws.{one_civil}
-use Rattle.st_fraction.specs.Fraction.{Fraction, IsFraction, units}
-use Rattle.st_leaps.specs.Label.{AreCounts}
-use Rattle.st_leaps.specs.declared.table.LeapTable.{LeapTable}
-use Rattle.st_leaps.proofs.CountLaws.{tables_count}
-use Rattle.st_picture.specs.Cell.{HasLabelCell, IsCellOfLabel, IsTruncatedCell, IsCell, IsCellOf, IsOfUnit, days_of, leaps_for, to_truncate}
+use Rattle.st_fraction.specs.Fraction.{Fraction}
+use Rattle.st_picture.specs.Cell.{HasLabelCell, IsTruncatedCell, IsCell, IsOfUnit, to_truncate}
 use Rattle.st_picture.specs.Picture.{Picture, Stands, unit_of, coarseness, IsLeastUnit}
-use Rattle.st_picture.specs.Printing.{PrintsIn, AreOneAnswer}
 use Rattle.st_picture.specs.Reading.{HasCountBeside, IsCount, ReadsPicture}
 use Rattle.st_picture.specs.Text.{IsTimeOfDay, Shows, IsTextOf, in_case, mark_text, shown_text}
 use Rattle.st_text.specs.Bytes.{padded}
@@ -22,8 +16,6 @@ use Rattle.st_dates.specs.Names.{name_of_month}
 use Rattle.st_picture.specs.declared.cell.Cell.{Cell}
 use Rattle.st_picture.specs.declared.cell.Cell.TheVariants as cells
 use Rattle.st_picture.specs.declared.fault.PictureFault.TheVariants.{MixedForms}
-use Rattle.st_picture.specs.declared.fault.PrintFault.{PrintFault}
-use Rattle.st_picture.specs.declared.fault.PrintFault.TheVariants.{Undecided, OutOfMemory}
 use Rattle.st_picture.specs.declared.mark.Mark.{Mark}
 use Rattle.st_picture.specs.declared.mark.Mark.TheVariants.{Year, Month, MonthShort, MonthName, DayOfMonth, DayOfYear, WeekdayShort, WeekdayName, Hour, HourOfHalf, Minute, Second, HalfUpper, HalfLower, Seconds, JulianDate, Scale, Round, Truncate}
 use Rattle.st_picture.specs.declared.mark.Piece.{Piece}
@@ -31,7 +23,6 @@ use Rattle.st_picture.specs.declared.mark.Piece.TheVariants.{Marked, Plain}
 use Rattle.st_picture.specs.declared.shown.Shown.{Shown}
 use Rattle.st_picture.specs.declared.unit.LeastUnit.{LeastUnit}
 use Rattle.st_picture.specs.declared.unit.LeastUnit.TheVariants as units
-use Rattle.st_picture.proofs.CellLaws.{one_cell}
 use Rattle.st_picture.proofs.OneAnswer.{beside, counts, dates}
 use Rattle.st_picture.proofs.RuleLaws.{stands_head, stands_tail}
 

@@ -1,5 +1,5 @@
 -- What every picture keeps, so that it can be printed.
-use Rattle.std.specs.Prelude.{◌≡◌, ℕ, ◌≤◌, false, List}
+use Rattle.std.specs.Prelude.{◌≡◌, ◌≤◌, false, List}
 use Rattle.std.specs.List.{list_any}
 use Rattle.st_picture.specs.declared.mark.Piece.{Piece}
 use Rattle.st_picture.specs.declared.unit.LeastUnit.{LeastUnit}

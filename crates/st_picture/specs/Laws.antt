@@ -10,7 +10,7 @@ use Rattle.st_picture.specs.declared.mark.Piece.{Piece}
 use Rattle.st_fraction.specs.Fraction.{Fraction, IsFraction, ◌≤ᶠ◌, ◌<ᶠ◌, ◌≈ᶠ◌, whole, units}
 use Rattle.st_leaps.specs.Label.{AreCounts}
 use Rattle.st_leaps.specs.declared.table.LeapTable.{LeapTable}
-use Rattle.st_picture.specs.Cell.{IsCell, IsCellOf, IsOfUnit, IsUnit, days_of, half_unit, leaps_for, ◌≤ᶜ◌}
+use Rattle.st_picture.specs.Cell.{IsCell, IsOfUnit, IsUnit, days_of, half_unit, leaps_for, ◌≤ᶜ◌}
 use Rattle.st_picture.specs.Defaults.{calendar_picture, seconds_picture, HasCalendarText, HasSecondsText, IsCalendarText}
 use Rattle.st_picture.specs.Printing.{HasText}
 use Rattle.st_picture.specs.Text.{IsTextOf}

@@ -1,4 +1,4 @@
-use Rattle.std.proofs.Common.{sym, inl, lit<}
+use Rattle.std.proofs.Common.{inl, lit<}
 use Rattle.st_picture.specs.declared.fault.PictureFault.TheVariants.{MixedForms}
 use Rattle.st_picture.proofs.ReadLaws.{told_of, fault_read, picture_read, unit_kept, places_kept}
 use Rattle.st_picture.proofs.picture.read_pieces.Goals as goal

@@ -1,6 +1,4 @@
-use Rattle.std.proofs.Common.{◌≡◌, List}
-use Rattle.st_picture.specs.declared.mark.Piece.{Piece}
-use Rattle.st_picture.specs.declared.unit.LeastUnit.{LeastUnit}
+use Rattle.std.proofs.Common.{◌≡◌}
 use Rattle.st_picture.proofs.TextLaws.{only_text}
 use Rattle.st_picture.proofs.picture.Picture.print_cell.Goals as goal
 

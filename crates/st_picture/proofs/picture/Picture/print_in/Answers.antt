@@ -18,7 +18,7 @@ returns-clause-only c =
     let lo : to_z w128 (of_z w128 c.args.value.lo) ≡ c.args.value.lo = search rules in
     let hi : to_z w128 (of_z w128 c.args.value.hi) ≡ c.args.value.hi = search rules in
     λ answer h. only_both c.args.self.now _ c.args.value.lo c.args.value.hi _ _ c.cell_of-lo.result c.cell_of-hi.result _ answer lo hi same
-        c.cell_of-lo.ensures.cell c.cell_of-hi.ensures.cell c.cell_of-lo.ensures.form c.in_ok-line.ensures.only h
+    c.cell_of-lo.ensures.cell c.cell_of-hi.ensures.cell c.cell_of-lo.ensures.form c.in_ok-line.ensures.only h
 
 pub returns-then-ne-clause-only : goal.returns-then-ne-clause-only
 returns-then-ne-clause-only c =
@@ -26,4 +26,4 @@ returns-then-ne-clause-only c =
     let lo : to_z w128 (of_z w128 c.args.value.lo) ≡ c.args.value.lo = search rules in
     let hi : to_z w128 (of_z w128 c.args.value.hi) ≡ c.args.value.hi = search rules in
     λ answer h. only_apart c.args.self.now _ c.args.value.lo c.args.value.hi _ _ c.cell_of-lo.result c.cell_of-hi.result answer lo hi unlike
-        c.cell_of-lo.ensures.cell c.cell_of-hi.ensures.cell h
+    c.cell_of-lo.ensures.cell c.cell_of-hi.ensures.cell h
