@@ -141,7 +141,7 @@ cell_between unit rounds count u v w cell other c fu fv fw l m hu hw hv =
     same_cell other cell (never_falls unit rounds count v w other cell c fv fw m hv hw) (never_falls unit rounds count u v cell other c fu fv l hu hv)
 
 -- Each value has a cell.
-early : (count : ℤ → ℤ) (w : Fraction) (label : Stamp) → AreCounts count → IsFraction w → whole (neg_ℤ (pos 63_000_000_000)) ≤ᶠ w
+pub early : (count : ℤ → ℤ) (w : Fraction) (label : Stamp) → AreCounts count → IsFraction w → whole (neg_ℤ (pos 63_000_000_000)) ≤ᶠ w
     → IsLabelOf count w label → neg_ℤ (pos 730_485) ≤ℤ label.day
 early count w label c f from is =
     let s = at_one_scale w label.second w w w w w w f.positive is.is_label.second_is.positive f.positive f.positive f.positive f.positive f.positive f.positive in
@@ -190,7 +190,7 @@ half_from Day = record { le = omega (arith, ints) }
 half_from Month = record { le = omega (arith, ints) }
 half_from Year = record { le = omega (arith, ints) }
 
-truncates_from : (unit : LeastUnit) (rounds : Bool) (v : Fraction) → whole (neg_ℤ (pos 63_000_000_000)) ≤ᶠ v → whole (neg_ℤ (pos 63_000_000_000)) ≤ᶠ to_truncate unit rounds v
+pub truncates_from : (unit : LeastUnit) (rounds : Bool) (v : Fraction) → whole (neg_ℤ (pos 63_000_000_000)) ≤ᶠ v → whole (neg_ℤ (pos 63_000_000_000)) ≤ᶠ to_truncate unit rounds v
 truncates_from unit true v l = le_f_add (whole (neg_ℤ (pos 63_000_000_000))) v (whole (pos 0)) (half_unit unit) l (half_from unit)
 truncates_from unit false v l = l
 

@@ -15,3 +15,4 @@ pub mod PrintLaws
 pub mod OneAnswer
 pub mod TextLaws
 pub mod DefaultLaws
+pub mod HasTexts

@@ -23,7 +23,7 @@ prints_both picture leaps lo hi low high a b text e f same ha hb t =
     (a, subst P e ha, subst R (sym same) (subst Q f hb), t)
 
 -- the days of each system count as they must
-days_count : (leaps : Option LeapTable) → AreCounts (days_of leaps)
+pub days_count : (leaps : Option LeapTable) → AreCounts (days_of leaps)
 days_count None = record { from = λ day. omega (arith, ints); to = λ day. omega (arith, ints) }
 days_count (Some table) = tables_count table.pairs.items table.is_table
 

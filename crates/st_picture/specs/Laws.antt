@@ -75,6 +75,12 @@ OneText =
     (system : System) (text : List ℕ) (picture : Picture) (cell : Cell) (a b : List ℕ) → ReadsPicture system text (Ok picture)
     → IsOfUnit picture.unit cell → IsTextOf picture.pieces cell a → IsTextOf picture.pieces cell b → a ≡ b
 
+-- Each value from the year 4 on has a text by a picture.
+abbrev pub EachHasText : Type 0
+EachHasText =
+    (picture : Picture) (leaps : Option LeapTable) (v : Fraction) → IsFraction v → whole (neg_ℤ (pos 63_000_000_000)) ≤ᶠ v
+    → (text : List ℕ) × HasText picture leaps v text
+
 -- The two default pictures are pictures; that of seconds is none of UTC.
 abbrev pub DefaultsAreRead : Type 0
 DefaultsAreRead =
