@@ -1,18 +1,17 @@
 -- Each value has a text.
-use Rattle.std.proofs.Common.{◌≡◌, ◌⊎◌, ℕ, suc, ◌+◌, ◌-◌, ◌*◌, ◌/◌, ◌%◌, ◌^◌, ◌<◌, ◌≤◌, Bool, true, false, cond, List, Option, Some, None, inl, inr, refl, sym, ap, ◌∙◌, subst, arith, lit<, ℤ, pos, negsuc, neg_ℤ, ◌+ℤ◌, ◌*ℤ◌, ◌≤ℤ◌, ◌<ℤ◌, int_le}
+use Rattle.std.proofs.Common.{◌≡◌, ℕ, ◌+◌, ◌-◌, ◌*◌, ◌/◌, ◌%◌, ◌^◌, ◌<◌, ◌≤◌, Bool, true, false, cond, List, Option, inl, inr, refl, sym, ap, subst, arith, lit<, ℤ, pos, negsuc, neg_ℤ, ◌+ℤ◌, ◌*ℤ◌, ◌≤ℤ◌, ◌<ℤ◌, int_le}
 use Rattle.std.specs.Prelude.{unsigned_abs}
 use Rattle.std.specs.List.{flat_map}
 use Rattle.std.proofs.lemmas.Bool.{cases_lt}
 use Rattle.std.proofs.lemmas.Int.{ints, int_rem_euclid_is}
-use Rattle.st_dates.specs.Calendar.{IsCalendarDay, day_number}
 use Rattle.st_dates.specs.Civil.{IsCivil, day_of_year, weekday_of}
 use Rattle.st_dates.specs.declared.civil.Civil.{Civil}
-use Rattle.st_fraction.specs.Fraction.{Fraction, IsFraction, ◌≤ᶠ◌, ◌<ᶠ◌, whole, units}
+use Rattle.st_fraction.specs.Fraction.{Fraction, IsFraction, ◌≤ᶠ◌, whole, units}
 use Rattle.st_fraction.proofs.Ring.{ring, lin, numerals, le-mul_z, lt_cancel_z}
 use Rattle.st_fraction.proofs.Strict.{le_lt_f}
 use Rattle.st_leaps.specs.Label.{Stamp, IsLabelOf, AreCounts}
 use Rattle.st_leaps.specs.declared.table.LeapTable.{LeapTable}
-use Rattle.st_picture.specs.Cell.{IsTruncated, IsCellOfLabel, HasLabelCell, IsTruncatedCell, IsCellOf, IsOfMonth, capped, days_of, leaps_for, minute_step, hour_step, second_step, to_truncate}
+use Rattle.st_picture.specs.Cell.{IsTruncated, IsCellOfLabel, HasLabelCell, IsTruncatedCell, capped, days_of, leaps_for, minute_step, hour_step, second_step, to_truncate}
 use Rattle.st_picture.specs.Picture.{Picture}
 use Rattle.st_picture.specs.Printing.{HasText}
 use Rattle.st_picture.specs.Text.{IsTimeOfDay, Shows, shown_text}
@@ -154,7 +153,7 @@ each_has_text picture leaps v f from =
     let c = days_count (leaps_for picture.system leaps) in
     let cell = each_has_cell picture.unit picture.rounds count v c f from in
     let s = has_shown picture.unit count (to_truncate picture.unit picture.rounds v) cell.0 c (truncates_fraction picture.unit picture.rounds v f)
-        (truncates_from picture.unit picture.rounds v from) cell.1 in (
+    (truncates_from picture.unit picture.rounds v from) cell.1 in (
       flat_map (shown_text s.0) picture.pieces,
       record { cell = cell.0; is_cell = cell.1; is_text = record { shown = s.0; shows = s.1; whole = refl } },
     )
