@@ -27,7 +27,7 @@ pub days_count : (leaps : Option LeapTable) → AreCounts (days_of leaps)
 days_count None = record { from = λ day. omega (arith, ints); to = λ day. omega (arith, ints) }
 days_count (Some table) = tables_count table.pairs.items table.is_table
 
-one_cell_of : (picture : Picture) (leaps : Option LeapTable) (v : ℤ) (a b : Cell) → IsCellOf picture leaps (units v) a → IsCellOf picture leaps (units v) b → a ≡ b
+pub one_cell_of : (picture : Picture) (leaps : Option LeapTable) (v : ℤ) (a b : Cell) → IsCellOf picture leaps (units v) a → IsCellOf picture leaps (units v) b → a ≡ b
 one_cell_of picture leaps v a b h k =
     one_cell picture.unit picture.rounds (days_of (leaps_for picture.system leaps)) (units v) a b (days_count (leaps_for picture.system leaps)) (record { positive = lit< tt }) h k
 

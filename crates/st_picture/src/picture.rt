@@ -56,6 +56,7 @@ impl Picture {
     ghost use Rattle.st_picture.specs.Picture.{Picture as ThePicture};
     ghost use Rattle.st_picture.specs.Reading.{Agree, IsSecondsAlone, ReadsPicture};
     ghost use Rattle.st_picture.specs.Printing.{AreOneAnswer, PrintsIn};
+    ghost use Rattle.st_picture.specs.declared.cell.Cell.{Cell as TheCell};
     ghost use Rattle.st_picture.specs.declared.fault.PictureFault.{PictureFault as Fault};
     ghost use Rattle.st_picture.specs.declared.fault.PrintFault.{PrintFault as Refusal};
     ghost use Rattle.st_dates.specs.declared.system.System.TheVariants.{Utc};
@@ -87,6 +88,7 @@ impl Picture {
         requires leaps { self.now.system ≡ Utc → IsSome leaps }
         requires range { IsPrintable value }
         ensures cell { IsCellOf self.now (option_map (λ t. t.now) leaps.entry) (units value) result }
+        ensures only { (cell : TheCell) → IsCellOf self.now (option_map (λ t. t.now) leaps.entry) (units value) cell → result ≡ cell }
         ensures form { IsOfUnit self.now.unit result }
         ensures shown { IsCellShown result }
     {
