@@ -52,7 +52,7 @@ impl Model for Picture {
 
 impl Picture {
     ghost use Rattle.std.specs.Prelude.{ℕ, List, Result};
-    ghost use Rattle.st_picture.specs.Cell.{IsCellOf, IsOfUnit, IsPrintable};
+    ghost use Rattle.st_picture.specs.Cell.{IsCellOf, IsOfUnit, IsPrintable, IsUnit};
     ghost use Rattle.st_picture.specs.Picture.{Picture as ThePicture};
     ghost use Rattle.st_picture.specs.Reading.{Agree, IsSecondsAlone, ReadsPicture};
     ghost use Rattle.st_picture.specs.Printing.{AreOneAnswer, PrintsIn};
@@ -91,6 +91,8 @@ impl Picture {
         ensures only { (cell : TheCell) → IsCellOf self.now (option_map (λ t. t.now) leaps.entry) (units value) cell → result ≡ cell }
         ensures form { IsOfUnit self.now.unit result }
         ensures shown { IsCellShown result }
+        // The unit has at most nine decimals.
+        ensures unit { IsUnit self.now.unit }
     {
         value::cell_of(self.unit, self.rounds, leaps_for(self.system, leaps), value)
     }
