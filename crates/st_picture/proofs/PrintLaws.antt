@@ -1,18 +1,21 @@
 -- Two ends of one cell print its text, and no other answer fits.
 use Rattle.std.proofs.Common.{◌≡◌, ◌≢◌, ℕ, ℤ, List, Option, Some, None, Result, Ok, Err, inl, inr, refl, sym, ap, ◌∙◌, subst, arith, lit<}
 use Rattle.std.proofs.lemmas.Int.{ints}
-use Rattle.st_fraction.specs.Fraction.{units}
+use Rattle.st_dates.specs.declared.system.System.{System}
+use Rattle.st_fraction.specs.Fraction.{Fraction, IsFraction, units}
 use Rattle.st_leaps.specs.Label.{AreCounts}
 use Rattle.st_leaps.specs.declared.table.LeapTable.{LeapTable}
 use Rattle.st_leaps.proofs.CountLaws.{tables_count}
 use Rattle.st_picture.specs.Cell.{IsCellOf, IsOfUnit, days_of, leaps_for}
 use Rattle.st_picture.specs.Picture.{Picture}
-use Rattle.st_picture.specs.Printing.{PrintsIn, AreOneAnswer}
+use Rattle.st_picture.specs.Printing.{HasText, PrintsIn, AreOneAnswer}
+use Rattle.st_picture.specs.Reading.{ReadsPicture}
 use Rattle.st_picture.specs.Text.{IsTextOf}
 use Rattle.st_picture.specs.declared.cell.Cell.{Cell}
 use Rattle.st_picture.specs.declared.fault.PrintFault.{PrintFault}
 use Rattle.st_picture.specs.declared.fault.PrintFault.TheVariants.{Undecided, OutOfMemory}
 use Rattle.st_picture.proofs.CellLaws.{one_cell}
+use Rattle.st_picture.proofs.TextLaws.{cells_are_of_unit, one_text}
 
 pub prints_both : (picture : Picture) (leaps : Option LeapTable) (lo hi low high : ℤ) (a b : Cell) (text : List ℕ) → low ≡ lo → high ≡ hi → a ≡ b
     → IsCellOf picture leaps (units low) a → IsCellOf picture leaps (units high) b → IsTextOf picture.pieces a text → PrintsIn picture leaps lo hi (Ok text)
@@ -30,6 +33,14 @@ days_count (Some table) = tables_count table.pairs.items table.is_table
 pub one_cell_of : (picture : Picture) (leaps : Option LeapTable) (v : ℤ) (a b : Cell) → IsCellOf picture leaps (units v) a → IsCellOf picture leaps (units v) b → a ≡ b
 one_cell_of picture leaps v a b h k =
     one_cell picture.unit picture.rounds (days_of (leaps_for picture.system leaps)) (units v) a b (days_count (leaps_for picture.system leaps)) (record { positive = lit< tt }) h k
+
+pub one_text_of_value : (system : System) (text : List ℕ) (picture : Picture) (leaps : Option LeapTable) (v : Fraction) (a b : List ℕ) → ReadsPicture system text (Ok picture)
+    → IsFraction v → HasText picture leaps v a → HasText picture leaps v b → a ≡ b
+one_text_of_value system text picture leaps v a b r f h k =
+    let count = days_of (leaps_for picture.system leaps) in
+    let same : k.cell ≡ h.cell = one_cell picture.unit picture.rounds count v k.cell h.cell (days_count (leaps_for picture.system leaps)) f k.is_cell h.is_cell in
+    one_text system text picture h.cell a b r (cells_are_of_unit picture.unit picture.rounds count v h.cell h.is_cell) h.is_text
+    (subst (λ (x : Cell). IsTextOf picture.pieces x b) same k.is_text)
 
 only_printed : (picture : Picture) (leaps : Option LeapTable) (lo hi : ℤ) (cell : Cell) (text : List ℕ) (b : Result (List ℕ) PrintFault) → IsCellOf picture leaps (units lo) cell
     → IsCellOf picture leaps (units hi) cell → ((other : List ℕ) → IsTextOf picture.pieces cell other → text ≡ other) → PrintsIn picture leaps lo hi b → AreOneAnswer (Ok text) b

@@ -81,6 +81,12 @@ EachHasText =
     (picture : Picture) (leaps : Option LeapTable) (v : Fraction) → IsFraction v → whole (neg_ℤ (pos 63_000_000_000)) ≤ᶠ v
     → (text : List ℕ) × HasText picture leaps v text
 
+-- A value has one text by a picture.
+abbrev pub OneTextOfValue : Type 0
+OneTextOfValue =
+    (system : System) (text : List ℕ) (picture : Picture) (leaps : Option LeapTable) (v : Fraction) (a b : List ℕ) → ReadsPicture system text (Ok picture)
+    → IsFraction v → HasText picture leaps v a → HasText picture leaps v b → a ≡ b
+
 -- The two default pictures are pictures; that of seconds is none of UTC.
 abbrev pub DefaultsAreRead : Type 0
 DefaultsAreRead =

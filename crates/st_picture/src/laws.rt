@@ -1,7 +1,7 @@
 //! Laws of the definitions by which cells and pictures are told. Each function does nothing; its
 //! contract is the law.
 
-ghost use Rattle.st_picture.specs.Laws.{CalendarCells, CalendarTexts, CellBetween, CellOfFloor, CellsAreOfUnit, CellsNeverFall, DefaultsAreRead, EachHasCell, EachHasCut, EachHasText, HalvesAreUnits, OneCell, OneCut, OneReading, OneText, SecondsTexts};
+ghost use Rattle.st_picture.specs.Laws.{CalendarCells, CalendarTexts, CellBetween, CellOfFloor, CellsAreOfUnit, CellsNeverFall, DefaultsAreRead, EachHasCell, EachHasCut, EachHasText, HalvesAreUnits, OneCell, OneCut, OneReading, OneText, OneTextOfValue, SecondsTexts};
 
 /// Each value from the year 4 on has a cell, whatever fraction of a second it is.
 pub fn each_has_cell()
@@ -61,6 +61,11 @@ pub fn one_text()
 /// Each value from the year 4 on has a text by a picture.
 pub fn each_has_text()
     ensures { EachHasText }
+{}
+
+/// A value has one text by a picture.
+pub fn one_text_of_value()
+    ensures { OneTextOfValue }
 {}
 
 /// `YYYY-MM-DDTHR:MN:SC.###` and `SP2000.######` are pictures, the latter for all systems but UTC.
