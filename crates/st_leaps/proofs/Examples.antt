@@ -1,10 +1,10 @@
 -- Worked values: the definitions on days around an inserted and a removed second, and on numbers.
-use Rattle.std.proofs.Common.{◌≡◌, ℕ, zero, suc, ℤ, pos, negsuc, List, [], ◌∷◌, Some, refl, arith, lit<}
+use Rattle.std.proofs.Common.{◌≡◌, ℤ, pos, negsuc, List, [], ◌∷◌, refl, arith, lit<}
 use Rattle.std.proofs.lemmas.Int.{ints}
 use Rattle.st_decimal.specs.declared.number.Dec.{Dec}
 use Rattle.st_fraction.specs.Fraction.{over, units}
 use Rattle.st_leaps.specs.Faults.{Breaks}
-use Rattle.st_leaps.specs.Label.{Stamp, IsLabel, IsLabelOf, length_of}
+use Rattle.st_leaps.specs.Label.{IsLabel, IsLabelOf, length_of}
 use Rattle.st_leaps.specs.Numbers.{IsCount, IsMidnight}
 use Rattle.st_leaps.specs.Table.{count_on}
 use Rattle.st_leaps.specs.declared.fault.LeapFault.TheVariants.{BadStep}

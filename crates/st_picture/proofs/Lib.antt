@@ -13,3 +13,6 @@ pub mod ReadLaws
 pub mod AloneLaws
 pub mod PrintLaws
 pub mod OneAnswer
+pub mod TextLaws
+pub mod DefaultLaws
+pub mod HasTexts
