@@ -51,7 +51,7 @@ impl Model for Picture {
 }
 
 impl Picture {
-    ghost use Rattle.st_picture.specs.Cell.{IsCellOf, IsPrintable};
+    ghost use Rattle.st_picture.specs.Cell.{IsCellOf, IsPrintable, IsUnit};
     ghost use Rattle.st_picture.specs.Reading.{IsSecondsAlone, ReadsPicture};
     ghost use Rattle.st_picture.specs.Printing.{PrintsIn};
     ghost use Rattle.st_dates.specs.declared.system.System.TheVariants.{Utc};
@@ -82,6 +82,8 @@ impl Picture {
         requires range { IsPrintable value }
         ensures cell { IsCellOf self.now (option_map (λ t. t.now) leaps.entry) (units value) result }
         ensures shown { IsCellShown result }
+        // The unit has at most nine decimals.
+        ensures unit { IsUnit self.now.unit }
     {
         value::cell_of(self.unit, self.rounds, leaps_for(self.system, leaps), value)
     }

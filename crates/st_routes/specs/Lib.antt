@@ -1,0 +1,5 @@
+pub mod FaultSteps
+pub mod Route
+pub mod Source
+pub mod Outcome
+pub mod Laws
