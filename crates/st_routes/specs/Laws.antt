@@ -1,5 +1,5 @@
 -- What the definitions of routes, sources and outcomes say by themselves, as laws.
-use Rattle.std.specs.Prelude.{◌≡◌, ◌≢◌, ◌⊎◌, ℕ, ℤ, List, Option, Result, Err, ⊤, ⊥}
+use Rattle.std.specs.Prelude.{◌≡◌, ◌≢◌, ◌⊎◌, ℕ, ℤ, List, Option, Result, Err, ⊤}
 use Rattle.st_fraction.specs.Fraction.{Fraction, IsFraction}
 use Rattle.st_dates.specs.declared.system.System.{System}
 use Rattle.st_leaps.specs.declared.table.LeapTable.{LeapTable}

@@ -1,7 +1,7 @@
 -- What is answered of a value: the outcome that it has by a target, and the text of that outcome. An outcome is printed where
 -- two bounds of the value have it; where a sine stands on the way, two bounds that are close and differ leave it undecided.
 -- That the value is known through fractions alone, and how close is close, are this project's own.
-use Rattle.std.specs.Prelude.{◌≡◌, ◌≢◌, ℕ, ◌^◌, pos, List, Option, Result, Ok, Err, ⊤, ⊥}
+use Rattle.std.specs.Prelude.{◌≡◌, ◌≢◌, ℕ, ◌^◌, pos, List, Option, Result, Ok, Err, ⊤}
 use Rattle.st_text.specs.Bytes.{decimal_digits}
 use Rattle.st_fraction.specs.Fraction.{Fraction, IsFraction, ◌≤ᶠ◌, over, ◌+ᶠ◌}
 use Rattle.st_leaps.specs.declared.table.LeapTable.{LeapTable}

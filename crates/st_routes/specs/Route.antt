@@ -1,6 +1,6 @@
 -- The way of a time from the scale of its source to that of its target. The value there is known through the fractions that it
 -- is at least, and at most; all are in seconds past J2000. Source: NAIF's Time Required Reading.
-use Rattle.std.specs.Prelude.{ℤ, pos, neg_ℤ, ◌≤ℤ◌, ⊤, ⊥}
+use Rattle.std.specs.Prelude.{ℤ, pos, neg_ℤ, ◌≤ℤ◌, ⊤}
 use Rattle.st_fraction.specs.Fraction.{Fraction, ◌≤ᶠ◌, units, ◌+ᶠ◌}
 use Rattle.st_scales.specs.Route as scales
 use Rattle.st_routes.specs.declared.route.Route.{Route}

@@ -1,6 +1,6 @@
 -- What the text of a source stands for, an instant of its system or an encoded tick of its clock, and why it is refused.
 -- Source: NAIF's Time and SCLK Required Reading. The order of the refusals is this project's own.
-use Rattle.std.specs.Prelude.{◌≡◌, ℕ, ◌^◌, ◌≤◌, ◌<◌, ℤ, List, length, IsTrue, Option, Result, Ok, Err, ⊤, ⊥}
+use Rattle.std.specs.Prelude.{◌≡◌, ℕ, ◌^◌, ◌≤◌, ◌<◌, ℤ, List, length, IsTrue, Option, Result, Ok, Err, ⊤}
 use Rattle.st_text.specs.Bytes.{are_digits, number_of}
 use Rattle.st_fraction.specs.Fraction.{units}
 use Rattle.st_dates.specs.declared.system.System.{System}
