@@ -1,3 +1,4 @@
+pub mod TickSteps
 pub mod FaultSteps
 pub mod Route
 pub mod Source

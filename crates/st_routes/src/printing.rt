@@ -1,22 +1,26 @@
 //! The answer to a time, by a picture or by a clock.
 
-ghost use Rattle.std.specs.Prelude.{◌≡◌, ◌<◌, ◌*◌, ◌^◌, pos, ◌-ℤ◌, ◌≤ℤ◌, IsSome, option_map};
+ghost use Rattle.std.specs.Prelude.{◌≡◌, ◌<◌, ◌*◌, ◌^◌, pos, ◌-ℤ◌, ◌≤ℤ◌, IfErr, IfOk, IsSome, option_map};
 ghost use Rattle.st_enclosure.specs.Ends.{EndsAtMost};
 ghost use Rattle.st_dates.specs.declared.system.System.TheVariants.{Utc};
 ghost use Rattle.st_fraction.specs.Fraction.{LiesWithin, units};
-ghost use Rattle.st_clock.specs.Clock.{IsClock};
 ghost use Rattle.st_clock.specs.Time.{value_of};
-ghost use Rattle.st_routes.specs.Outcome.{RouteGives, by_picture, by_clock};
+ghost use Rattle.st_routes.specs.Outcome.{MayBeUndecided, MayPrint, RouteGives, at_tick, by_clock, by_picture};
+ghost use Rattle.st_routes.specs.TickSteps.{IsWithin};
+ghost use Rattle.st_routes.specs.declared.fault.TimeFault.TheVariants.{Undecided as Unknown};
 ghost use Rattle.st_routes.specs.Route.{HasNoSineOnIt, HasSineOnIt, IsSource};
 
 use crate::fault::TimeFault;
 use crate::route::Route;
 use crate::ticks::{TickForm, spell_tick};
+use st_clock::laws::one_tick;
 use st_clock::{Clock, Point, Ticks};
 use st_decimal::Line;
 use st_enclosure::Enc;
 use st_leaps::LeapTable;
+use st_picture::laws::cell_of_floor;
 use st_picture::{Picture, PrintFault};
+use st_scales::laws::one_value;
 use std::alloc::Global;
 
 /// The text of a time by a picture, led to the scale of its target. For UTC that is TAI, and `leaps` tells its days.
@@ -60,6 +64,8 @@ fn print_exact(
     requires leaps { picture.now.system ≡ Utc → IsSome leaps }
     ensures { RouteGives route.now (value_of time) (by_picture picture.now (option_map (λ t. t.now) leaps.entry)) result }
 {
+    one_value();
+    cell_of_floor();
     let value = route.enclose(Enc::point(time.units));
     let cell = picture.cell_of(value.lo, leaps);
     Ok(picture.print_cell(alloc, cell)?)
@@ -119,12 +125,32 @@ pub fn print_tick(
 ) -> Result<Line, TimeFault>
     requires range { IsSource time }
     ensures gives { RouteGives route.now (units time) (by_clock clock.now form) result }
-    ensures clock { IsClock clock.now }
 {
-    match clock.ticks_in(route.enclose(Enc::point(time))) {
-        Ok(Ticks::Before) => Err(TimeFault::BeforeClock),
-        Ok(Ticks::At(tick)) => Ok(spell_tick(alloc, clock, tick, form)?),
-        Ok(Ticks::After) => Err(TimeFault::AfterClock),
+    match find_ticks(route, time, clock, form)? {
+        Ticks::Before => Err(TimeFault::BeforeClock),
+        Ticks::At(tick) => Ok(spell_tick(alloc, clock, tick, form)?),
+        Ticks::After => Err(TimeFault::AfterClock),
+    }
+}
+
+/// The tick of a time, with the times that have none. Two bounds of an exact value are one, and so have one tick.
+fn find_ticks(
+    route: &Route,
+    time: i128,
+    clock: &Clock,
+    form: TickForm,
+) -> Result<Ticks, TimeFault>
+    requires range { IsSource time }
+    ensures found { IfOk result (λ ticks. MayPrint route.now (units time) (by_clock clock.now form) (at_tick ticks)) }
+    ensures within { IfOk result (IsWithin clock.now) }
+    ensures undecided { IfErr result (λ fault. (fault ≡ Unknown) × MayBeUndecided route.now (units time) (by_clock clock.now form)) }
+{
+    // What is true of each clock comes with its scale.
+    let _scale = clock.scale();
+    one_tick();
+    let value = route.enclose(Enc::point(time));
+    match clock.ticks_in(value) {
+        Ok(ticks) => Ok(ticks),
         Err(_) => Err(TimeFault::Undecided),
     }
 }

@@ -45,7 +45,7 @@ impl Route {
         requires narrow { (time.hi -ℤ time.lo) ≤ℤ pos 1 }
         ensures at_least { (x : Fraction) → IsFraction x → LiesWithin time.lo time.hi x → IsAtLeast self.now x (units result.lo) }
         ensures at_most { (x : Fraction) → IsFraction x → LiesWithin time.lo time.hi x → IsAtMost self.now x (units result.hi) }
-        ensures exact { HasNoSineOnIt self.now → result.lo ≡ time.lo +ℤ shift self.now }
+        ensures exact { HasNoSineOnIt self.now → (result.lo ≡ time.lo +ℤ shift self.now) × (result.hi ≡ time.hi +ℤ shift self.now) }
         ensures narrow { (result.hi -ℤ result.lo) ≤ℤ pos 900001 }
         ensures lo { IsPrintable result.lo }
         ensures hi { IsPrintable result.hi }

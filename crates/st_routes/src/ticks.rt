@@ -3,18 +3,22 @@
 ghost use Rattle.std.specs.Prelude.{◌≡◌, ◌≤◌, ◌<◌, ℕ, List, Result, IfOk, IsTrue, min};
 ghost use Rattle.st_text.specs.Bytes as bytes;
 ghost use Rattle.st_text.specs.Bytes.{decimal_digits, number_of};
-ghost use Rattle.st_clock.specs.Clock.{IsClock, total};
+ghost use Rattle.st_ticks.specs.Face as faces;
+ghost use Rattle.st_ticks.specs.Reading.{ReadsClock};
+ghost use Rattle.st_ticks.specs.declared.fault.ClockTextFault.{ClockTextFault as TextFault};
+ghost use Rattle.st_clock.specs.Clock.{total};
 ghost use Rattle.st_clock.specs.declared.point.Point.{Point as Parted};
 ghost use Rattle.st_routes.specs.Outcome.{IsTickText};
 ghost use Rattle.st_routes.specs.Route.{IsSource};
-ghost use Rattle.st_routes.specs.Source.{ReadsNumber, TickGives, TimeGives};
+ghost use Rattle.st_routes.specs.Source.{ReadsNumber, ReadsTick, TickGives, TimeGives};
 ghost use Rattle.st_routes.specs.declared.fault.TimeFault.{TimeFault as Fault};
 
 use crate::fault::TimeFault;
 use st_clock::{Clock, Point};
 use st_decimal::{Line, OutOfMemory};
 use st_text::{are_digits, put_padded};
-use st_ticks::ClockTextFault;
+use st_ticks::laws::reading;
+use st_ticks::{ClockTextFault, Face};
 use std::alloc::Global;
 
 /// The greatest number of a tick.
@@ -42,12 +46,31 @@ pub fn read_tick(text: &[u8], clock: &Clock, form: TickForm) -> Result<u64, Time
     // No other answer meets it.
     ensures only { (answer : Result ℕ Fault) → TickGives clock.now form text.now answer → result ≡ answer }
     ensures within { IfOk result (λ tick. tick ≤ total clock.now) }
-    ensures clock { IsClock clock.now }
+{
+    Ok(find_tick(text, clock, form)?)
+}
+
+fn find_tick(text: &[u8], clock: &Clock, form: TickForm) -> Result<u64, ClockTextFault>
+    ensures reads { ReadsTick clock.now form text.now result }
+    ensures only { (answer : Result ℕ TextFault) → ReadsTick clock.now form text.now answer → result ≡ answer }
+    ensures within { IfOk result (λ tick. tick ≤ total clock.now) }
 {
     match form {
-        TickForm::Clock => Ok(clock.face().read_clock(text)?),
-        TickForm::Ticks => Ok(read_number(text, clock.face().total())?),
+        TickForm::Clock => read_string(text, clock.face()),
+        TickForm::Ticks => read_number(text, clock.face().total()),
     }
+}
+
+/// The tick of a clock string, which is one of the clock.
+fn read_string(text: &[u8], face: &Face) -> Result<u64, ClockTextFault>
+    ensures reads { ReadsClock face.now text.now result }
+    ensures only { (answer : Result ℕ TextFault) → ReadsClock face.now text.now answer → result ≡ answer }
+    ensures within { IfOk result (λ tick. tick ≤ faces.total face.now) }
+{
+    // What is true of each face comes with its total.
+    let _total = face.total();
+    reading();
+    face.read_clock(text)
 }
 
 /// The time of an encoded tick, in the clock's scale.
@@ -81,7 +104,6 @@ pub fn spell_tick(
     ensures gives { IfOk result (IsTickText clock.now form tick) }
     // No other text meets it.
     ensures only { (text : List ℕ) → IsTickText clock.now form tick text → IfOk result (λ line. line ≡ text) }
-    ensures clock { IsClock clock.now }
 {
     match form {
         TickForm::Clock => clock.face().write_clock(alloc, tick),
@@ -91,6 +113,14 @@ pub fn spell_tick(
 
 /// The number of a tick, of as many as the total says.
 fn read_number(text: &[u8], total: u64) -> Result<u64, ClockTextFault>
+    ensures reads { ReadsNumber total text.now result }
+    ensures only { (answer : Result ℕ TextFault) → ReadsNumber total text.now answer → result ≡ answer }
+    ensures within { IfOk result (λ tick. tick ≤ total) }
+{
+    find_number(text, total)
+}
+
+fn find_number(text: &[u8], total: u64) -> Result<u64, ClockTextFault>
     ensures { ReadsNumber total text.now result }
 {
     if text.is_empty() || !are_digits(text) {
