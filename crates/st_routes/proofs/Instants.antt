@@ -1,5 +1,5 @@
 -- A time text gives one instant or refusal.
-use Rattle.std.proofs.Common.{◌≡◌, ◌⊎◌, inl, inr, ◌^◌, ℕ, ◌*◌, ℤ, pos, neg_ℤ, ◌+ℤ◌, ◌-ℤ◌, ◌*ℤ◌, ◌≤ℤ◌, ◌<ℤ◌, List, Option, None, Some, Result, Ok, Err, refl, sym, ap, ◌∙◌, subst, arith, lit<}
+use Rattle.std.proofs.Common.{◌≡◌, ◌⊎◌, inl, inr, ◌^◌, ℕ, ◌*◌, ℤ, pos, neg_ℤ, ◌+ℤ◌, ◌-ℤ◌, ◌*ℤ◌, ◌≤ℤ◌, ◌<ℤ◌, List, Option, None, Some, Result, Ok, Err, MatchResult, IfOk, refl, sym, ap, ◌∙◌, subst, arith, lit<}
 use Rattle.std.proofs.lemmas.Int.{ints, by_lt_z}
 use Rattle.st_fraction.specs.Fraction.{units, whole}
 use Rattle.st_dates.specs.Label.{formal}
@@ -7,6 +7,7 @@ use Rattle.st_dates.specs.Range.{LiesInRange}
 use Rattle.st_dates.specs.declared.label.Label.{Label}
 use Rattle.st_dates.specs.declared.system.System.{System}
 use Rattle.st_leaps.specs.Label.{AreCounts, IsLabel, IsLabelOf, in_units, length_of}
+use Rattle.st_leaps.specs.declared.fault.NoSuchSecond.{NoSuchSecond}
 use Rattle.st_leaps.specs.declared.table.LeapTable.{LeapTable}
 use Rattle.st_forms.specs.Reading.{ReadsTime}
 use Rattle.st_forms.specs.declared.form.Form.{Form}
@@ -76,7 +77,7 @@ never_both system leaps NoSecond u a b = a
 one_follows : (system : System) (leaps : Option LeapTable) (reading : Result TimeText FormFault) (a b : Result ℤ TimeFault) → Follows system leaps reading a → Follows system leaps reading b → a ≡ b
 one_follows system leaps (Err fault) a b f g = f ∙ sym g
 one_follows system leaps (Ok time) a b (inl (u, is, e)) (inl (w, has, f)) =
-    e ∙ ap (λ (z : ℤ). Ok {E = TimeFault} z) (one_value system leaps time u w is has) ∙ sym f
+    e ∙ ap {B = Result ℤ TimeFault} (λ z. Ok z) (one_value system leaps time u w is has) ∙ sym f
 one_follows system leaps (Ok time) a b (inl (u, is, e)) (inr (none, f)) = absurd (never_both system leaps time u is none)
 one_follows system leaps (Ok time) a b (inr (none, e)) (inl (w, has, f)) = absurd (never_both system leaps time w has none)
 one_follows system leaps (Ok time) a b (inr (none, e)) (inr (other, f)) = e ∙ sym f
@@ -120,3 +121,8 @@ each_gives found system form leaps text = let r = found text system form in go r
     go (Err forms.WrongSystem) reads = (Err faults.WrongSystem, reads)
     go (Err forms.NoSuchDay) reads = (Err faults.NoSuchDay, reads)
     go (Err forms.OutOfRange) reads = (Err faults.OutOfRange, reads)
+
+pub source_of_answer : (count : ℤ → ℤ) (label : Label) (answer : Result ℤ NoSuchSecond) → AreCounts count → LiesInRange label
+    → MatchResult answer (λ u. IsLabelOf count (units u) (in_units label)) (λ _. IsLabel count (in_units label) → ⊥) → IfOk answer IsSource
+source_of_answer count label (Ok u) counts range is = source_of_label count label u counts range is
+source_of_answer count label (Err e) counts range is = tt

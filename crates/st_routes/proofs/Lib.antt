@@ -4,4 +4,4 @@ pub mod Instants
 pub mod Numbers
 pub mod Bounds
 pub mod Printed
-
+pub mod Outcomes

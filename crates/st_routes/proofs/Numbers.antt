@@ -36,7 +36,7 @@ failed m n h = grind (arith, nat_tests)
 
 -- the answer of a run of digits n, or of another text
 abbrev pub among : ℕ → ℕ → Result ℕ ClockTextFault
-among total n = if nat_le n (10 ^ 18) then (if nat_le n total then Ok n else Err NotInPartition) else Err TooLarge
+among most n = if nat_le n (10 ^ 18) then (if nat_le n most then Ok n else Err NotInPartition) else Err TooLarge
 
 abbrev pub chosen : Bool → ℕ → Result ℕ ClockTextFault → Result ℕ ClockTextFault
 chosen digits count answer = if digits && nat_le 1 count then answer else Err Form
@@ -44,45 +44,45 @@ chosen digits count answer = if digits && nat_le 1 count then answer else Err Fo
 chosen_number : (digits : Bool) (count : ℕ) (answer : Result ℕ ClockTextFault) → digits ≡ true → 1 ≤ count → chosen digits count answer ≡ answer
 chosen_number digits count answer d h = rw (d, passes 1 count h) refl
 
-among_ticks : (total n : ℕ) → n ≤ 10 ^ 18 → n ≤ total → among total n ≡ Ok n
-among_ticks total n h k = rw (passes n (10 ^ 18) h, passes n total k) refl
+among_ticks : (most n : ℕ) → n ≤ 10 ^ 18 → n ≤ most → among most n ≡ Ok n
+among_ticks most n h k = rw (passes n (10 ^ 18) h, passes n most k) refl
 
-among_others : (total n : ℕ) → n ≤ 10 ^ 18 → total < n → among total n ≡ Err NotInPartition
-among_others total n h k = rw (passes n (10 ^ 18) h, fails n total k) refl
+among_others : (most n : ℕ) → n ≤ 10 ^ 18 → most < n → among most n ≡ Err NotInPartition
+among_others most n h k = rw (passes n (10 ^ 18) h, fails n most k) refl
 
-among_large : (total n : ℕ) → 10 ^ 18 < n → among total n ≡ Err TooLarge
-among_large total n h = rw (fails n (10 ^ 18) h) refl
+among_large : (most n : ℕ) → 10 ^ 18 < n → among most n ≡ Err TooLarge
+among_large most n h = rw (fails n (10 ^ 18) h) refl
 
 chosen_none : (digits : Bool) (count : ℕ) (answer : Result ℕ ClockTextFault) → (IsTrue digits × (1 ≤ count) → ⊥) → chosen digits count answer ≡ Err Form
-chosen_none true count answer no = elim (cases_Bool (nat_le 1 count)) [
-  | inl e ↦ absurd (no (refl, passed 1 count e))
+chosen_none true count answer never = elim (cases_Bool (nat_le 1 count)) [
+  | inl e ↦ absurd (never (refl, passed 1 count e))
   | inr e ↦ rw e refl
 ]
-chosen_none false count answer no = refl
+chosen_none false count answer never = refl
 
 -- what a text that is to be a number of a tick gives
 abbrev pub answer_of : ℕ → List ℕ → Result ℕ ClockTextFault
-answer_of total text = chosen (are_digits text) (length text) (among total (number_of text))
+answer_of most text = chosen (are_digits text) (length text) (among most (number_of text))
 
-number_is : (total : ℕ) (text : List ℕ) (answer : Result ℕ ClockTextFault) → ReadsNumber total text answer → answer_of total text ≡ answer
-number_is total text (Ok k) (is, small, within, e) =
+number_is : (most : ℕ) (text : List ℕ) (answer : Result ℕ ClockTextFault) → ReadsNumber most text answer → answer_of most text ≡ answer
+number_is most text (Ok k) (is, small, within, e) =
     let n = number_of text in
-    chosen_number (are_digits text) (length text) (among total n) is.0 is.1
-    ∙ among_ticks total n small (subst (λ (x : ℕ). x ≤ total) e within) ∙ ap (λ (x : ℕ). Ok {E = ClockTextFault} x) (sym e)
-number_is total text (Err Form) no = chosen_none (are_digits text) (length text) (among total (number_of text)) no
-number_is total text (Err TooLarge) (is, large) =
-    chosen_number (are_digits text) (length text) (among total (number_of text)) is.0 is.1 ∙ among_large total (number_of text) large
-number_is total text (Err NotInPartition) (is, small, beyond) =
-    chosen_number (are_digits text) (length text) (among total (number_of text)) is.0 is.1 ∙ among_others total (number_of text) small beyond
-number_is total text (Err TooManyFields) g = absurd g
-number_is total text (Err NoPartition) g = absurd g
-number_is total text (Err FieldBelowOffset) g = absurd g
+    chosen_number (are_digits text) (length text) (among most n) is.0 is.1
+    ∙ among_ticks most n small (subst (λ (x : ℕ). x ≤ most) e within) ∙ ap {B = Result ℕ ClockTextFault} (λ x. Ok x) (sym e)
+number_is most text (Err Form) never = chosen_none (are_digits text) (length text) (among most (number_of text)) never
+number_is most text (Err TooLarge) (is, large) =
+    chosen_number (are_digits text) (length text) (among most (number_of text)) is.0 is.1 ∙ among_large most (number_of text) large
+number_is most text (Err NotInPartition) (is, small, beyond) =
+    chosen_number (are_digits text) (length text) (among most (number_of text)) is.0 is.1 ∙ among_others most (number_of text) small beyond
+number_is most text (Err TooManyFields) g = absurd g
+number_is most text (Err NoPartition) g = absurd g
+number_is most text (Err FieldBelowOffset) g = absurd g
 
-pub one_number : (total : ℕ) (text : List ℕ) (a b : Result ℕ ClockTextFault) → ReadsNumber total text a → ReadsNumber total text b → a ≡ b
-one_number total text a b f g = sym (number_is total text a f) ∙ number_is total text b g
+pub one_number : (most : ℕ) (text : List ℕ) (a b : Result ℕ ClockTextFault) → ReadsNumber most text a → ReadsNumber most text b → a ≡ b
+one_number most text a b f g = sym (number_is most text a f) ∙ number_is most text b g
 
-number_found : (total : ℕ) (text : List ℕ) → (answer : Result ℕ ClockTextFault) × ReadsNumber total text answer
-number_found total text = elim (cases_Bool (are_digits text)) [
+number_found : (most : ℕ) (text : List ℕ) → (answer : Result ℕ ClockTextFault) × ReadsNumber most text answer
+number_found most text = elim (cases_Bool (are_digits text)) [
   | inl d ↦ elim (cases_Bool (nat_le 1 (length text))) [
     | inl h ↦ ranged (d, passed 1 (length text) h)
     | inr h ↦ (Err Form, λ is. short (length text) h is.1)
@@ -94,11 +94,11 @@ number_found total text = elim (cases_Bool (are_digits text)) [
     short n h k = let l = failed 1 n h in omega arith
     no_digits : (b : Bool) → b ≡ false → IsTrue b → ⊥
     no_digits b e h = omega (arith, ap {B = ℕ} (λ (x : Bool). if x then 1 else 0) (sym h ∙ e))
-    ranged : IsNumber text → (answer : Result ℕ ClockTextFault) × ReadsNumber total text answer
+    ranged : IsNumber text → (answer : Result ℕ ClockTextFault) × ReadsNumber most text answer
     ranged is = elim (cases_Bool (nat_le (number_of text) (10 ^ 18))) [
-      | inl s ↦ elim (cases_Bool (nat_le (number_of text) total)) [
-        | inl w ↦ (Ok (number_of text), (is, passed (number_of text) (10 ^ 18) s, passed (number_of text) total w, refl))
-        | inr w ↦ (Err NotInPartition, (is, passed (number_of text) (10 ^ 18) s, failed (number_of text) total w))
+      | inl s ↦ elim (cases_Bool (nat_le (number_of text) most)) [
+        | inl w ↦ (Ok (number_of text), (is, passed (number_of text) (10 ^ 18) s, passed (number_of text) most w, refl))
+        | inr w ↦ (Err NotInPartition, (is, passed (number_of text) (10 ^ 18) s, failed (number_of text) most w))
       ]
       | inr s ↦ (Err TooLarge, (is, failed (number_of text) (10 ^ 18) s))
     ]

@@ -69,9 +69,11 @@ ticks_at other (in_cell cell) = other
 ticks_at other (at_tick ticks) = ticks
 
 pub cells_differ : (a b : Cell) → a ≢ b → in_cell a ≢ in_cell b
+unfolding cell_in
 cells_differ a b differ e = differ (ap (cell_in a) e)
 
 pub ticks_differ : (a b : Ticks) → a ≢ b → at_tick a ≢ at_tick b
+unfolding ticks_at
 ticks_differ a b differ e = differ (ap (ticks_at a) e)
 
 -- a known value, by a picture
@@ -120,7 +122,7 @@ ticks_print route r clock form lo hi t l h (a, b) = between route r (by_clock cl
 pub ticks_undecided : TickIsOne → (route : Route) (r : Fraction) (clock : Clock) (form : TickForm) (lo hi : ℤ) (e : TicksUndecided) → IsClock clock
     → IsAtLeast route r (units lo) → IsAtMost route r (units hi) → lo ≤ℤ hi → (hi -ℤ lo) ≤ℤ pos 900001 → (HasNoSineOnIt route → lo ≡ hi)
     → GivesTicks clock (units lo) (units hi) (Err e) → MayBeUndecided route r (by_clock clock form)
-ticks_undecided one route r clock form lo hi e is l h ordered narrow exact (a, b, differ) = elim (sine_or_none route) [
+ticks_undecided one route r clock form lo hi e is l h ordered narrow exact (a, (b, differ)) = elim (sine_or_none route) [
   | inl sine ↦ undecided route r (by_clock clock form) (at_tick e.lo) (at_tick e.hi) lo hi sine l h ordered narrow a b (ticks_differ e.lo e.hi differ)
   | inr none ↦ absurd (differ (one clock (units hi) e.lo e.hi is (record { positive = lit< tt }) (subst (λ (z : ℤ). TickOf clock (units z) e.lo) (exact none) a) b))
 ]

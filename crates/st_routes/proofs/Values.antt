@@ -1,7 +1,7 @@
 -- A time of units and a part of a unit, as a fraction.
 use Rattle.std.proofs.Common.{◌≡◌, ℕ, ◌*◌, ◌^◌, ◌<◌, ℤ, pos, neg_ℤ, ◌+ℤ◌, ◌-ℤ◌, ◌*ℤ◌, ◌≤ℤ◌, ◌<ℤ◌, refl, arith, lit<, mul-pos}
 use Rattle.std.proofs.lemmas.Int.{ints, by_lt_z}
-use Rattle.st_fraction.specs.Fraction.{Fraction, ◌≤ᶠ◌, ◌<ᶠ◌, over, units, ◌+ᶠ◌}
+use Rattle.st_fraction.specs.Fraction.{Fraction, IsFraction, ◌≤ᶠ◌, ◌<ᶠ◌, over, units, ◌+ᶠ◌}
 use Rattle.st_fraction.proofs.Ring.{add-mul_z, one-mul_z, le-mul_z}
 use Rattle.st_fraction.proofs.Scale.{IsAt, at_self, at_add, le_at, at_le}
 use Rattle.st_fraction.proofs.Linear.{at_factor}
@@ -89,3 +89,6 @@ source_of_range time l r =
     let a = low_units range_start time.units time.part time.of l r.from in
     let b = high_units range_end time.units time.part time.of l r.to in
     (omega (arith, ints, a), omega (arith, ints, b))
+
+pub value_is : (time : Point) → time.part < time.of → IsFraction (value_of time)
+value_is time l = record { positive = parted-den time.units time.part time.of (omega arith) }

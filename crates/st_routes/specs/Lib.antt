@@ -1,3 +1,4 @@
+pub mod LawSteps
 pub mod TickSteps
 pub mod FaultSteps
 pub mod Route

@@ -24,6 +24,9 @@ use std::alloc::Global;
 /// The greatest number of a tick.
 const MOST_TICKS: u64 = 1_000_000_000_000_000_000;
 
+/// One more than that.
+const CAP: u128 = 1_000_000_000_000_000_001;
+
 /// How the ticks of a clock are told.
 #[derive(Clone, Copy, Debug, PartialEq, Eq)]
 pub enum TickForm {
@@ -144,7 +147,7 @@ fn capped_number(digits: &[u8]) -> u64
     let mut number = 0;
     for byte in digits {
         let more = 10 * number + u128::from(byte.saturating_sub(b'0'));
-        number = more.min(u128::from(MOST_TICKS) + 1);
+        number = more.min(CAP);
     }
     number as u64
 }
