@@ -219,20 +219,20 @@ tick_number Before = pos 0
 tick_number After = pos 1
 tick_number (At k) = pos (2 + k)
 
+same_number : (s t : Ticks) → tick_number s ≡ tick_number t → s ≡ t
+unfolding tick_number
+same_number Before Before e = refl
+same_number Before (At b) e = absurd (omega (arith, ints, e))
+same_number Before After e = absurd (omega (arith, ints, e))
+same_number (At a) Before e = absurd (omega (arith, ints, e))
+same_number (At a) (At b) e = let g : a ≡ b = omega (arith, ints, e) in ap At g
+same_number (At a) After e = absurd (omega (arith, ints, e))
+same_number After Before e = absurd (omega (arith, ints, e))
+same_number After (At b) e = absurd (omega (arith, ints, e))
+same_number After After e = refl
+
 ticks_decide : (s t : Ticks) → (s ≡ t) ⊎ (s ≢ t)
-ticks_decide s t = numbers_decide s t tick_number tick_number (λ e f. joined s t e)
-  where
-    joined : (s t : Ticks) → tick_number s ≡ tick_number t → s ≡ t
-    unfolding tick_number
-    joined Before Before e = refl
-    joined Before (At b) e = absurd (omega (arith, ints, e))
-    joined Before After e = absurd (omega (arith, ints, e))
-    joined (At a) Before e = absurd (omega (arith, ints, e))
-    joined (At a) (At b) e = let g : a ≡ b = omega (arith, ints, e) in ap At g
-    joined (At a) After e = absurd (omega (arith, ints, e))
-    joined After Before e = absurd (omega (arith, ints, e))
-    joined After (At b) e = absurd (omega (arith, ints, e))
-    joined After After e = refl
+ticks_decide s t = numbers_decide s t tick_number tick_number (λ e f. same_number s t e)
 
 cell_or : Cell → Outcome → Cell
 cell_or other (in_cell cell) = cell
