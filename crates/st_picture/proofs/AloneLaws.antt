@@ -1,15 +1,13 @@
 -- Pictures that print seconds alone.
-use Rattle.std.proofs.Common.{◌≡◌, ℕ, ◌+◌, ◌<◌, ◌≤◌, Bool, true, false, not, ◌||◌, ◌&&◌, nat_lt, nat_le, List, [], ◌∷◌, ◌++◌, inl, inr, refl, sym, ap, ◌∙◌, subst, arith}
+use Rattle.std.proofs.Common.{◌≡◌, ℕ, Bool, true, false, not, ◌&&◌, nat_lt, nat_le, List, ◌∷◌, ◌++◌, inl, inr, refl, ap, ◌∙◌, arith}
 use Rattle.std.specs.Prelude.{count_by}
 use Rattle.std.specs.List.{list_any}
 use Rattle.std.proofs.lemmas.Bool.{cases_Bool}
 use Rattle.std.proofs.lemmas.Bool.Decides.{nat_tests}
-use Rattle.st_picture.specs.declared.mark.Mark.{Mark}
 use Rattle.st_picture.specs.declared.mark.Mark.TheVariants.{Seconds}
 use Rattle.st_picture.specs.declared.mark.Piece.{Piece}
 use Rattle.st_picture.specs.declared.mark.Piece.TheVariants.{Marked, Plain}
-use Rattle.st_picture.specs.Picture.{Stands}
-use Rattle.st_picture.specs.Reading.{HasCountBeside, IsSecondsAlone}
+use Rattle.st_picture.specs.Reading.{IsSecondsAlone}
 use Rattle.st_picture.specs.ReadingMachine.{is_seconds, is_plain, is_count, is_printing, are_seconds_alone}
 use Rattle.st_picture.proofs.Fronts.{both}
 use Rattle.st_picture.proofs.RuleLaws.{Tells, any_split, any_in, any_mark, stands_of, both_true}

@@ -1,25 +1,23 @@
 -- Each value has one cell, and cells never fall.
-use Rattle.std.proofs.Common.{◌≡◌, ◌⊎◌, ℕ, ◌+◌, ◌-◌, ◌*◌, ◌/◌, ◌^◌, ◌<◌, ◌≤◌, Bool, true, false, inl, inr, refl, sym, ap, subst, arith, mul-pos, lit<, ℤ, pos, neg_ℤ, ◌+ℤ◌, ◌-ℤ◌, ◌*ℤ◌, ◌≤ℤ◌, ◌<ℤ◌}
-use Rattle.std.proofs.Math.Nat.{one-le-pow, pow-suc}
-use Rattle.std.proofs.lemmas.Nat.{pow-add}
+use Rattle.std.proofs.Common.{◌≡◌, ◌⊎◌, ℕ, ◌-◌, ◌*◌, ◌^◌, ◌<◌, ◌≤◌, Bool, true, false, inl, inr, refl, sym, ap, subst, arith, mul-pos, lit<, ℤ, pos, neg_ℤ, ◌+ℤ◌, ◌*ℤ◌, ◌≤ℤ◌, ◌<ℤ◌}
+use Rattle.std.proofs.Math.Nat.{one-le-pow}
 use Rattle.std.proofs.lemmas.Int.{ints}
-use Rattle.st_fraction.specs.Fraction.{Fraction, IsFraction, ◌≤ᶠ◌, ◌<ᶠ◌, ◌≈ᶠ◌, over, whole, units, ◌+ᶠ◌, ◌-ᶠ◌, ◌*ᶠ◌}
-use Rattle.st_fraction.specs.Floor.{IsFloor}
-use Rattle.st_fraction.proofs.Order.{le_f_refl, le_f_trans, le_f_add, same_refl, same_sym, same_trans, same_add, le_of_same}
-use Rattle.st_fraction.proofs.Ring.{lin, lt_cancel_z, le-mul_z, lt-mul_z}
-use Rattle.st_fraction.proofs.Floors.{floor_rises, floor_found, floor_same}
+use Rattle.st_fraction.specs.Fraction.{Fraction, IsFraction, ◌≤ᶠ◌, whole}
+use Rattle.st_fraction.proofs.Order.{le_f_refl, le_f_add}
+use Rattle.st_fraction.proofs.Ring.{lt_cancel_z}
+use Rattle.st_fraction.proofs.Floors.{floor_rises, floor_found}
 use Rattle.st_fraction.proofs.Linear.{at_one_scale, whole_at}
 use Rattle.st_fraction.proofs.Scale.{at_le}
-use Rattle.st_leaps.specs.Label.{Stamp, IsLabelOf, AreCounts, value_of, ◌≤ˡ◌}
+use Rattle.st_leaps.specs.Label.{Stamp, IsLabelOf, AreCounts, ◌≤ˡ◌}
 use Rattle.st_leaps.proofs.Days.{placed, start}
-use Rattle.st_leaps.proofs.LabelLaws.{rises, each_has_label, label_of_floor, second_at}
-use Rattle.st_picture.specs.Cell.{IsTruncated, IsOfMonth, IsCellOfLabel, HasLabelCell, IsTruncatedCell, IsCell, IsUnit, capped, half_unit, to_truncate, times_tens, julian_date, second_step, minute_step, hour_step, ◌≤ᶜ◌}
+use Rattle.st_leaps.proofs.LabelLaws.{rises, each_has_label}
+use Rattle.st_picture.specs.Cell.{IsCellOfLabel, HasLabelCell, IsTruncatedCell, IsCell, capped, half_unit, to_truncate, times_tens, julian_date, second_step, minute_step, hour_step, ◌≤ᶜ◌}
 use Rattle.st_picture.specs.declared.cell.Cell.{Cell}
 use Rattle.st_picture.specs.declared.cell.Cell.TheVariants as cells
 use Rattle.st_picture.specs.declared.unit.LeastUnit.{LeastUnit}
 use Rattle.st_picture.specs.declared.unit.LeastUnit.TheVariants.{Second, Minute, Hour, Day, Month, Year, Count, Julian}
 use Rattle.st_picture.proofs.Months.{months_rise, has_month}
-use Rattle.st_picture.proofs.Steps.{truncated_rises, truncated_found, truncated_on, capped_rises}
+use Rattle.st_picture.proofs.Steps.{truncated_rises, truncated_found, capped_rises}
 use Rattle.st_picture.proofs.Counts.{count_rises, julian_rises}
 
 pub tens_some : (k : ℕ) → 0 < 10 ^ k

@@ -1,6 +1,6 @@
 -- Counts of seconds, and Julian dates, by whole units: a count lies before a whole number exactly where the value lies
 -- before a whole number of units.
-use Rattle.std.proofs.Common.{◌≡◌, ℕ, ◌*◌, ◌<◌, refl, sym, ap, ◌∙◌, subst, arith, mul-pos, lit<, ℤ, pos, neg_ℤ, ◌+ℤ◌, ◌-ℤ◌, ◌*ℤ◌, ◌≤ℤ◌, ◌<ℤ◌}
+use Rattle.std.proofs.Common.{◌≡◌, ℕ, ◌*◌, ◌<◌, sym, ap, ◌∙◌, subst, arith, mul-pos, ℤ, pos, neg_ℤ, ◌+ℤ◌, ◌-ℤ◌, ◌*ℤ◌, ◌≤ℤ◌, ◌<ℤ◌}
 use Rattle.std.proofs.lemmas.Int.{ints}
 use Rattle.st_fraction.specs.Fraction.{Fraction, ◌≤ᶠ◌, ◌<ᶠ◌, over, whole, ◌+ᶠ◌, ◌*ᶠ◌}
 use Rattle.st_fraction.specs.Floor.{IsFloor}
@@ -24,7 +24,7 @@ below_bound v n k u b h =
     next s z h = omega (arith, ints)
 
 -- counts
-count_below : (v : Fraction) (r : ℤ) (a b u : ℕ) → a * b ≡ u → v <ᶠ over (r *ℤ pos b) u → (v *ᶠ whole (pos a)) <ᶠ whole r
+pub count_below : (v : Fraction) (r : ℤ) (a b u : ℕ) → a * b ≡ u → v <ᶠ over (r *ℤ pos b) u → (v *ᶠ whole (pos a)) <ᶠ whole r
 count_below v r a b u e h = record {
   lt = lt_cancel_z (v.num *ℤ pos a *ℤ pos 1) (r *ℤ pos (v.den * 1)) b
       (go v.num r (pos a) (pos b) (pos v.den) (subst (λ (w : ℕ). (v.num *ℤ pos w) <ℤ (r *ℤ pos b *ℤ pos v.den)) (sym e) h.lt));
@@ -35,6 +35,18 @@ count_below v r a b u e h = record {
         let p : x *ℤ a *ℤ pos 1 *ℤ b ≡ x *ℤ (a *ℤ b) = simp (numerals, ring) in
         let q : r *ℤ (d *ℤ pos 1) *ℤ b ≡ r *ℤ b *ℤ d = simp (numerals, ring) in
         rw (p, q) h
+
+pub below_of_count : (v : Fraction) (r : ℤ) (a b u : ℕ) → a * b ≡ u → 0 < b → (v *ᶠ whole (pos a)) <ᶠ whole r → v <ᶠ over (r *ℤ pos b) u
+below_of_count v r a b u e some h = record {
+  lt = subst (λ (w : ℕ). (v.num *ℤ pos w) <ℤ (r *ℤ pos b *ℤ pos v.den)) e
+      (go v.num r (pos a) (pos b) (pos v.den) (lt-mul_z (v.num *ℤ pos a *ℤ pos 1) (r *ℤ pos (v.den * 1)) b some h.lt));
+}
+  where
+    go : (x r a b d : ℤ) → (x *ℤ a *ℤ pos 1 *ℤ b) <ℤ (r *ℤ (d *ℤ pos 1) *ℤ b) → (x *ℤ (a *ℤ b)) <ℤ (r *ℤ b *ℤ d)
+    go x r a b d h =
+        let p : x *ℤ a *ℤ pos 1 *ℤ b ≡ x *ℤ (a *ℤ b) = simp (numerals, ring) in
+        let q : r *ℤ (d *ℤ pos 1) *ℤ b ≡ r *ℤ b *ℤ d = simp (numerals, ring) in
+        rw (sym p, sym q) h
 
 below_count : (n r : ℤ) (a b u : ℕ) → a * b ≡ u → (over n u *ᶠ whole (pos a)) <ᶠ whole r → n <ℤ (r *ℤ pos b)
 below_count n r a b u e h =

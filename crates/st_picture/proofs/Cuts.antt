@@ -1,8 +1,5 @@
 -- Each text has one cut.
-use Rattle.std.proofs.Common.{◌≡◌, ℕ, zero, suc, ◌+◌, ◌<◌, ◌≤◌, List, [], ◌∷◌, ◌++◌, length, refl, sym, ap, ◌∙◌, subst, arith, lit<, append_assoc, length-append}
-use Rattle.std.specs.List.{flat_map}
-use Rattle.std.proofs.lemmas.Grind.{flat_map-append}
-use Rattle.st_picture.specs.declared.mark.Mark.{Mark}
+use Rattle.std.proofs.Common.{◌≡◌, ℕ, zero, suc, ◌≤◌, List, [], ◌∷◌, ◌++◌, length, refl, sym, ap, ◌∙◌, subst, arith, append_assoc, length-append}
 use Rattle.st_picture.specs.declared.mark.Piece.{Piece}
 use Rattle.st_picture.specs.declared.mark.Piece.TheVariants.{Marked, Plain}
 use Rattle.st_picture.specs.Mark.{stem_of, hashes, places_of, piece_text, spelled, IsLongest, IsCut}

@@ -1,11 +1,10 @@
 -- A value between two whole numbers of units has the cell of the lower one; halves are whole numbers of units.
-use Rattle.std.proofs.Common.{◌≡◌, ℕ, suc, ◌+◌, ◌-◌, ◌*◌, ◌/◌, ◌^◌, ◌<◌, ◌≤◌, Bool, true, false, refl, sym, ap, ◌∙◌, subst, arith, mul-pos, lit<, ℤ, pos, neg_ℤ, ◌+ℤ◌, ◌-ℤ◌, ◌*ℤ◌, ◌≤ℤ◌, ◌<ℤ◌}
+use Rattle.std.proofs.Common.{◌≡◌, ℕ, suc, ◌+◌, ◌-◌, ◌*◌, ◌/◌, ◌^◌, ◌<◌, ◌≤◌, Bool, true, false, refl, sym, ap, ◌∙◌, arith, mul-pos, lit<, ℤ, pos, ◌+ℤ◌, ◌-ℤ◌, ◌*ℤ◌}
 use Rattle.std.proofs.Math.Nat.{pow-suc}
 use Rattle.std.proofs.lemmas.Nat.{pow-add}
-use Rattle.std.proofs.lemmas.Int.{ints}
-use Rattle.st_fraction.specs.Fraction.{Fraction, IsFraction, ◌≤ᶠ◌, ◌<ᶠ◌, ◌≈ᶠ◌, over, whole, units, ◌+ᶠ◌, ◌-ᶠ◌}
+use Rattle.st_fraction.specs.Fraction.{Fraction, IsFraction, ◌≤ᶠ◌, ◌<ᶠ◌, ◌≈ᶠ◌, over, units, ◌+ᶠ◌, ◌-ᶠ◌}
 use Rattle.st_fraction.proofs.Order.{le_f_refl, le_f_trans, le_f_add, same_refl, same_sym, same_trans, same_add, le_of_same}
-use Rattle.st_fraction.proofs.Strict.{le_lt_f, lt_le_f, lt_at, at_lt}
+use Rattle.st_fraction.proofs.Strict.{lt_at, at_lt}
 use Rattle.st_fraction.proofs.Ring.{ring, lin, numerals}
 use Rattle.st_fraction.proofs.Scale.{IsAt, at_self, at_more, at_add, same_at}
 use Rattle.st_fraction.proofs.Linear.{at_factor}
@@ -13,13 +12,13 @@ use Rattle.st_fraction.proofs.Floors.{floor_same}
 use Rattle.st_leaps.specs.Label.{Stamp, IsLabelOf, value_of}
 use Rattle.st_leaps.proofs.Days.{start}
 use Rattle.st_leaps.proofs.LabelLaws.{label_of_floor, second_at}
-use Rattle.st_picture.specs.Cell.{IsTruncated, IsCellOfLabel, HasLabelCell, IsTruncatedCell, IsCell, IsUnit, half_unit, to_truncate, times_tens, julian_date, minute_step, hour_step}
+use Rattle.st_picture.specs.Cell.{IsCellOfLabel, HasLabelCell, IsTruncatedCell, IsCell, IsUnit, half_unit, times_tens, julian_date, minute_step, hour_step}
 use Rattle.st_picture.specs.declared.cell.Cell.{Cell}
 use Rattle.st_picture.specs.declared.unit.LeastUnit.{LeastUnit}
 use Rattle.st_picture.specs.declared.unit.LeastUnit.TheVariants.{Second, Minute, Hour, Day, Month, Year, Count, Julian}
 use Rattle.st_picture.proofs.Steps.{HasPart, truncated_on}
 use Rattle.st_picture.proofs.Counts.{IsBetween, count_of_floor, julian_of_floor}
-use Rattle.st_picture.proofs.CellLaws.{tens_some, count_den, julian_den, half_den, truncates_fraction}
+use Rattle.st_picture.proofs.CellLaws.{count_den, julian_den, half_den, truncates_fraction}
 
 -- as many tens, and as many units, make 10^18 together
 pub tens : (p : ℕ) → p ≤ 9 → 10 ^ p * 10 ^ (18 - p) ≡ 10 ^ 18

@@ -13,3 +13,5 @@ pub mod ReadLaws
 pub mod AloneLaws
 pub mod PrintLaws
 pub mod OneAnswer
+pub mod TextLaws
+pub mod DefaultLaws

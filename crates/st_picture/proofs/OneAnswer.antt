@@ -1,5 +1,5 @@
 -- A text has one answer as a picture for a system.
-use Rattle.std.proofs.Common.{◌≡◌, ◌≢◌, ◌⊎◌, ℕ, zero, suc, ◌+◌, ◌<◌, ◌≤◌, Bool, true, false, List, [], ◌∷◌, ◌++◌, length, Option, Some, None, Result, Ok, Err, inl, inr, refl, sym, ap, ◌∙◌, subst, arith, lit<, lit≤}
+use Rattle.std.proofs.Common.{◌≡◌, ◌⊎◌, ℕ, suc, ◌<◌, ◌≤◌, Bool, true, false, List, [], ◌∷◌, ◌++◌, length, Some, None, Result, Ok, Err, inl, inr, refl, sym, ap, ◌∙◌, subst, arith, lit≤}
 use Rattle.std.specs.Prelude.{slice_index_or}
 use Rattle.std.specs.List.{All}
 use Rattle.std.proofs.lemmas.Bool.{cases_order, cases_lt}
@@ -100,7 +100,7 @@ one_or_two (p ∷ pieces) m n s t = elim (stands_cases p pieces m s) [
 prints : (m : Mark) (u : LeastUnit) → unit_of m ≡ Some u → Prints m
 prints m u e = λ n. let g : Some u ≡ None = sym e ∙ n in cc
 
-beside : (pieces : List Piece) (m n : Mark) (u w : LeastUnit) → unit_of m ≡ Some u → unit_of n ≡ Some w → Stands pieces m → Stands pieces n → IsCount m ⊎ IsCount n
+pub beside : (pieces : List Piece) (m n : Mark) (u w : LeastUnit) → unit_of m ≡ Some u → unit_of n ≡ Some w → Stands pieces m → Stands pieces n → IsCount m ⊎ IsCount n
     → (HasCountBeside pieces → ⊥) → u ≡ w
 beside pieces m n u w e f s t c alone = elim (one_or_two pieces m n s t) [
   | inl same ↦ let g : Some u ≡ Some w = sym e ∙ ap unit_of same ∙ f in cc
@@ -110,11 +110,11 @@ beside pieces m n u w e f s t c alone = elim (one_or_two pieces m n s t) [
   ]
 ]
 
-counts : (m : Mark) (p : ℕ) → unit_of m ≡ Some (units.Count p) → IsCount m
+pub counts : (m : Mark) (p : ℕ) → unit_of m ≡ Some (units.Count p) → IsCount m
 counts (Seconds q) p e = tt
 counts m p e = absurd (cc)
 
-dates : (m : Mark) (p : ℕ) → unit_of m ≡ Some (units.Julian p) → IsCount m
+pub dates : (m : Mark) (p : ℕ) → unit_of m ≡ Some (units.Julian p) → IsCount m
 dates (JulianDate q) p e = tt
 dates m p e = absurd (cc)
 
@@ -168,7 +168,7 @@ one_rounding pieces false false h k = refl
 one_rounding pieces true false h k = absurd (k h)
 one_rounding pieces false true h k = absurd (h k)
 
-same_picture : (system : System) (text : List ℕ) (p q : Picture) → ReadsPicture system text (Ok p) → ReadsPicture system text (Ok q) → p ≡ q
+pub same_picture : (system : System) (text : List ℕ) (p q : Picture) → ReadsPicture system text (Ok p) → ReadsPicture system text (Ok q) → p ≡ q
 same_picture system text p q h k =
     let s : p.system ≡ q.system = h.0 ∙ sym k.0 in
     let c : p.pieces ≡ q.pieces = one_cut text p.pieces q.pieces h.1 k.1 in

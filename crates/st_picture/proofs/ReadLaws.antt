@@ -1,5 +1,5 @@
 -- What the tests find is the first rule that is broken, or that none is.
-use Rattle.std.proofs.Common.{◌≡◌, ◌≢◌, ◌⊎◌, ℕ, zero, suc, ◌+◌, ◌<◌, ◌≤◌, Bool, true, false, not, ◌||◌, ◌&&◌, nat_lt, cond, List, [], ◌∷◌, ◌++◌, length, Option, Some, None, Result, Ok, Err, inl, inr, refl, sym, ap, ◌∙◌, subst, arith, lit≤, lit<}
+use Rattle.std.proofs.Common.{◌≡◌, ℕ, zero, suc, ◌+◌, ◌<◌, ◌≤◌, Bool, true, false, ◌&&◌, cond, List, [], ◌∷◌, ◌++◌, length, Option, Some, None, Result, Ok, Err, inl, inr, refl, sym, ap, ◌∙◌, subst, arith, lit≤, lit<}
 use Rattle.std.specs.Prelude.{slice_index_or, position}
 use Rattle.std.specs.List.{list_any, position_from, All}
 use Rattle.std.proofs.lemmas.Bool.{cases_Bool, cases_lt}
@@ -15,11 +15,11 @@ use Rattle.st_picture.specs.declared.unit.LeastUnit.{LeastUnit}
 use Rattle.st_picture.specs.declared.unit.LeastUnit.TheVariants as units
 use Rattle.st_picture.specs.Cell.{unit_places}
 use Rattle.st_picture.specs.Mark.{IsCut, places_of}
-use Rattle.st_picture.specs.Picture.{Picture, Stands, unit_of, IsLeastUnit, Rounds}
+use Rattle.st_picture.specs.Picture.{unit_of, IsLeastUnit, Rounds}
 use Rattle.st_picture.specs.Reading.{IsPlainByte, HasBadByte, Breaks, place_of, ReadsPicture}
 use Rattle.st_picture.specs.ReadingMachine.{is_bad_byte, has_left_out, is_hash, has_many_places, is_mixed, is_utc, is_count, names_other, least_of, rounds_of, is_never_halved, unit_tested, tested}
 use Rattle.st_picture.proofs.Cuts.{each_has_cut}
-use Rattle.st_picture.proofs.RuleLaws.{Tells, told_not, tells_left_out, tells_hash, tells_many, tells_count_in_utc, tells_other}
+use Rattle.st_picture.proofs.RuleLaws.{told_not, tells_left_out, tells_hash, tells_many, tells_count_in_utc, tells_other}
 use Rattle.st_picture.proofs.UnitLaws.{least_is, none_prints, some_prints, rounds_is, tells_no_unit, tells_mixed}
 
 -- no rule before the nth is broken

@@ -1,23 +1,21 @@
 -- The tests of the code tell the rules of a picture.
-use Rattle.std.proofs.Common.{◌≡◌, ◌≢◌, ◌⊎◌, ℕ, zero, suc, ◌+◌, ◌<◌, ◌≤◌, Bool, true, false, not, ◌||◌, ◌&&◌, eqb, nat_lt, cond, List, [], ◌∷◌, ◌++◌, length, Option, Some, None, inl, inr, refl, sym, ap, ◌∙◌, subst, arith, append_assoc}
-use Rattle.std.specs.Prelude.{nat_eq, count_by, is_some, slice_get}
+use Rattle.std.proofs.Common.{◌≡◌, ◌≢◌, ◌⊎◌, ℕ, zero, suc, ◌<◌, Bool, true, false, not, ◌||◌, ◌&&◌, List, [], ◌∷◌, ◌++◌, Some, inl, inr, refl, sym, ap, ◌∙◌, subst, arith}
+use Rattle.std.specs.Prelude.{nat_eq, slice_get}
 use Rattle.std.specs.List.{starts_with, list_any}
-use Rattle.std.proofs.lemmas.Bool.{cases_Bool, cases_lt}
-use Rattle.std.proofs.lemmas.Bool.Decides.{nat_tests, Decides-eqb}
+use Rattle.std.proofs.lemmas.Bool.{cases_Bool}
+use Rattle.std.proofs.lemmas.Bool.Decides.{nat_tests}
 use Rattle.st_dates.specs.declared.system.System.{System}
 use Rattle.st_dates.specs.declared.system.System.TheVariants as systems
 use Rattle.st_picture.specs.declared.mark.Mark.{Mark}
-use Rattle.st_picture.specs.declared.mark.Mark.TheVariants.{Second, Seconds, JulianDate, Scale, Round, Truncate}
+use Rattle.st_picture.specs.declared.mark.Mark.TheVariants.{Seconds, JulianDate, Scale}
 use Rattle.st_picture.specs.declared.mark.Piece.{Piece}
 use Rattle.st_picture.specs.declared.mark.Piece.TheVariants.{Marked, Plain}
 use Rattle.st_picture.specs.declared.mark.ScaleMark.{ScaleMark}
 use Rattle.st_picture.specs.declared.mark.ScaleMark.TheVariants.{Utc, Tai, Tdb, Tdt}
-use Rattle.st_picture.specs.declared.unit.LeastUnit.{LeastUnit}
-use Rattle.st_picture.specs.declared.unit.LeastUnit.TheVariants as units
 use Rattle.st_picture.specs.Mark.{places_of, spelled}
-use Rattle.st_picture.specs.Picture.{Stands, unit_of, coarseness, IsLeastUnit, AsksToRound, Rounds}
-use Rattle.st_picture.specs.Reading.{left_out, HasLeftOut, HasStrayHash, HasCountBeside, HasUnlikeSeconds, Prints, IsCount, system_of}
-use Rattle.st_picture.specs.ReadingMachine.{begins_left_out, has_left_out, is_plain, is_hash, has_many_places, piece_unit, is_printing, is_count, seconds_places, is_unlike, is_named, names_other, is_utc, has_unlike, is_mixed, finer_of, least_of, rounds_by, rounds_of, is_never_halved}
+use Rattle.st_picture.specs.Picture.{Stands}
+use Rattle.st_picture.specs.Reading.{left_out, HasLeftOut, HasStrayHash, IsCount, system_of}
+use Rattle.st_picture.specs.ReadingMachine.{begins_left_out, has_left_out, is_plain, is_hash, has_many_places, is_count, is_named, names_other, is_utc}
 use Rattle.st_picture.proofs.Fronts.{test_begins, begins_test, both, either}
 
 -- a test tells a fact

@@ -1,16 +1,15 @@
 -- Cells as the code counts them.
-use Rattle.std.proofs.Common.{◌≡◌, ℕ, ◌+◌, ◌-◌, ◌*◌, ◌/◌, ◌^◌, ◌<◌, ◌≤◌, Bool, true, false, refl, sym, ap, ◌∙◌, subst, arith, lit<, ℤ, pos, negsuc, neg_ℤ, ◌+ℤ◌, ◌-ℤ◌, ◌*ℤ◌, ◌≤ℤ◌, ◌<ℤ◌}
+use Rattle.std.proofs.Common.{◌≡◌, ℕ, ◌-◌, ◌*◌, ◌/◌, ◌^◌, ◌<◌, ◌≤◌, Bool, true, refl, sym, ap, ◌∙◌, subst, arith, lit<, ℤ, pos, negsuc, ◌+ℤ◌, ◌-ℤ◌, ◌*ℤ◌, ◌≤ℤ◌}
 use Rattle.std.proofs.Math.Nat.{pow-le-pow_right, mul-le-mul}
 use Rattle.std.proofs.lemmas.Int.{ints}
 use Rattle.std.specs.Int.{w128, int_div_euclid}
 use mir.Val.{to_z}
 use Rattle.st_enclosure.proofs.Quotient.{splits}
-use Rattle.st_fraction.specs.Fraction.{Fraction, IsFraction, ◌≈ᶠ◌, units, ◌+ᶠ◌}
+use Rattle.st_fraction.specs.Fraction.{◌≈ᶠ◌, units, ◌+ᶠ◌}
 use Rattle.st_fraction.specs.Floor.{IsFloor}
 use Rattle.st_fraction.proofs.Order.{same_sym}
 use Rattle.st_fraction.proofs.Ring.{ring, lin, numerals}
-use Rattle.st_picture.specs.Cell.{IsTruncated, IsTruncatedCell, IsCell, IsUnit, half_unit, to_truncate, times_tens, julian_date}
-use Rattle.st_picture.specs.CellShown.{IsOfDay}
+use Rattle.st_picture.specs.Cell.{IsTruncated, IsTruncatedCell, IsCell, IsUnit, half_unit, times_tens, julian_date}
 use Rattle.st_picture.specs.declared.cell.Cell.{Cell}
 use Rattle.st_picture.specs.declared.unit.LeastUnit.{LeastUnit}
 use Rattle.st_picture.specs.declared.unit.LeastUnit.TheVariants as the

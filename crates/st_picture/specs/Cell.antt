@@ -1,6 +1,6 @@
 -- Cells of the time line: what is printed of a time is a function of its cell. A cell is truncated downwards, before J2000
 -- too. Source: Time Required Reading, on time pictures, which truncate unless they ask for rounding.
-use Rattle.std.specs.Prelude.{◌≡◌, ◌⊎◌, ℕ, ◌-◌, ◌*◌, ◌^◌, ◌≤◌, ℤ, pos, neg_ℤ, ◌+ℤ◌, ◌*ℤ◌, ◌≤ℤ◌, ◌<ℤ◌, int_le, Bool, true, false, Option, Some, None, unsigned_abs, if◌then◌else◌}
+use Rattle.std.specs.Prelude.{◌≡◌, ◌⊎◌, ℕ, ◌-◌, ◌*◌, ◌^◌, ◌≤◌, ℤ, pos, neg_ℤ, ◌+ℤ◌, ◌*ℤ◌, ◌≤ℤ◌, ◌<ℤ◌, int_le, Bool, true, false, Option, Some, None, unsigned_abs, if◌then◌else◌, ⊤}
 use Rattle.st_fraction.specs.Fraction.{Fraction, ◌≤ᶠ◌, ◌<ᶠ◌, over, whole, units, ◌+ᶠ◌, ◌*ᶠ◌}
 use Rattle.st_fraction.specs.Floor.{IsFloor}
 use Rattle.st_dates.specs.Calendar.{IsCalendarDay, day_number}
@@ -115,6 +115,18 @@ IsCell unit rounds count v cell = IsTruncatedCell unit count (to_truncate unit r
 -- the cell of a value by a picture; for UTC the value is TAI, and its days are told by the table
 abbrev pub IsCellOf : Picture → Option LeapTable → Fraction → Cell → Type 0
 IsCellOf picture leaps v cell = IsCell picture.unit picture.rounds (days_of (leaps_for picture.system leaps)) v cell
+
+-- the form of a unit's cells: a number, a day and what has passed of it, a month, or a year
+abbrev pub IsOfUnit : LeastUnit → Cell → Type 0
+IsOfUnit (Count places) (cells.Count n) = ⊤
+IsOfUnit (Julian places) (cells.Count n) = ⊤
+IsOfUnit (Second places) (cells.Day day of_day) = ⊤
+IsOfUnit Minute (cells.Day day of_day) = ⊤
+IsOfUnit Hour (cells.Day day of_day) = ⊤
+IsOfUnit Day (cells.Day day of_day) = ⊤
+IsOfUnit Month (cells.Month year month) = ⊤
+IsOfUnit Year (cells.Year year) = ⊤
+IsOfUnit unit cell = ⊥
 
 -- the order of cells of one picture: of numbers, or of the calendar
 abbrev pub ◌≤ᶜ◌ : Cell → Cell → Type 0

@@ -1,6 +1,7 @@
 -- What the definitions of cells and pictures say by themselves, as laws.
-use Rattle.std.specs.Prelude.{◌≡◌, ℕ, ℤ, pos, neg_ℤ, ◌+ℤ◌, Bool, List, Result}
+use Rattle.std.specs.Prelude.{◌≡◌, ◌≢◌, ◌↔◌, ℕ, ◌^◌, ℤ, pos, neg_ℤ, ◌+ℤ◌, ◌*ℤ◌, Bool, List, Option, Result, Ok}
 use Rattle.st_dates.specs.declared.system.System.{System}
+use Rattle.st_dates.specs.declared.system.System.TheVariants.{Utc}
 use Rattle.st_picture.specs.Mark.{IsCut}
 use Rattle.st_picture.specs.Picture.{Picture}
 use Rattle.st_picture.specs.Reading.{Agree, ReadsPicture}
@@ -8,7 +9,12 @@ use Rattle.st_picture.specs.declared.fault.PictureFault.{PictureFault}
 use Rattle.st_picture.specs.declared.mark.Piece.{Piece}
 use Rattle.st_fraction.specs.Fraction.{Fraction, IsFraction, ◌≤ᶠ◌, ◌<ᶠ◌, ◌≈ᶠ◌, whole, units}
 use Rattle.st_leaps.specs.Label.{AreCounts}
-use Rattle.st_picture.specs.Cell.{IsCell, IsUnit, half_unit, ◌≤ᶜ◌}
+use Rattle.st_leaps.specs.declared.table.LeapTable.{LeapTable}
+use Rattle.st_picture.specs.Cell.{IsCell, IsOfUnit, IsUnit, days_of, half_unit, leaps_for, ◌≤ᶜ◌}
+use Rattle.st_picture.specs.Defaults.{calendar_picture, seconds_picture, HasCalendarText, HasSecondsText, IsCalendarText}
+use Rattle.st_picture.specs.Printing.{HasText}
+use Rattle.st_picture.specs.Text.{IsTextOf}
+use Rattle.st_picture.specs.declared.cell.Cell.TheVariants as cells
 use Rattle.st_picture.specs.declared.cell.Cell.{Cell}
 use Rattle.st_picture.specs.declared.unit.LeastUnit.{LeastUnit}
 
@@ -58,3 +64,37 @@ OneCut = (text : List ℕ) (a b : List Piece) → IsCut text a → IsCut text b 
 abbrev pub OneReading : Type 0
 OneReading =
     (system : System) (text : List ℕ) (a b : Result Picture PictureFault) → ReadsPicture system text a → ReadsPicture system text b → Agree a b
+
+-- The cells of a unit have the unit's form.
+abbrev pub CellsAreOfUnit : Type 0
+CellsAreOfUnit = (unit : LeastUnit) (rounds : Bool) (count : ℤ → ℤ) (v : Fraction) (cell : Cell) → IsCell unit rounds count v cell → IsOfUnit unit cell
+
+-- A cell has one text by a picture.
+abbrev pub OneText : Type 0
+OneText =
+    (system : System) (text : List ℕ) (picture : Picture) (cell : Cell) (a b : List ℕ) → ReadsPicture system text (Ok picture)
+    → IsOfUnit picture.unit cell → IsTextOf picture.pieces cell a → IsTextOf picture.pieces cell b → a ≡ b
+
+-- The two default pictures are pictures; that of seconds is none of UTC.
+abbrev pub DefaultsAreRead : Type 0
+DefaultsAreRead =
+    ((system : System) → (picture : Picture) × ReadsPicture system calendar_picture (Ok picture))
+    × ((system : System) → system ≢ Utc → (picture : Picture) × ReadsPicture system seconds_picture (Ok picture))
+
+-- `YYYY-MM-DDTHR:MN:SC.###` prints the plain formula of a day and its milliseconds, and nothing else.
+abbrev pub CalendarCells : Type 0
+CalendarCells =
+    (system : System) (picture : Picture) (day millis : ℤ) (text : List ℕ) → ReadsPicture system calendar_picture (Ok picture)
+    → IsTextOf picture.pieces (cells.Day day (millis *ℤ pos (10 ^ 15))) text ↔ IsCalendarText day millis text
+
+-- So it is with the text of a value.
+abbrev pub CalendarTexts : Type 0
+CalendarTexts =
+    (system : System) (picture : Picture) (leaps : Option LeapTable) (v : Fraction) (text : List ℕ) → ReadsPicture system calendar_picture (Ok picture)
+    → HasText picture leaps v text ↔ HasCalendarText (days_of (leaps_for system leaps)) v text
+
+-- `SP2000.######` prints the plain formula of a value in seconds, and nothing else.
+abbrev pub SecondsTexts : Type 0
+SecondsTexts =
+    (system : System) (picture : Picture) (leaps : Option LeapTable) (v : Fraction) (text : List ℕ) → ReadsPicture system seconds_picture (Ok picture)
+    → HasText picture leaps v text ↔ HasSecondsText v text

@@ -10,3 +10,4 @@ pub mod Cell
 pub mod CellMachine
 pub mod CellShown
 pub mod Laws
+pub mod Defaults

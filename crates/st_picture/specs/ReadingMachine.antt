@@ -1,5 +1,5 @@
 -- How the code reads a picture: what a text begins with, and what the pieces have.
-use Rattle.std.specs.Prelude.{ℕ, zero, suc, ◌+◌, Bool, true, false, not, ◌||◌, ◌&&◌, ◌==◌, nat_eq, nat_le, nat_lt, List, [], ◌∷◌, drop, length, find, slice_index, Option, Some, None, is_some, count_by, Result, Ok, Err, if◌then◌else◌}
+use Rattle.std.specs.Prelude.{ℕ, Bool, true, false, not, ◌||◌, ◌&&◌, ◌==◌, nat_eq, nat_le, nat_lt, List, [], ◌∷◌, drop, length, find, slice_index, Option, Some, None, is_some, count_by, Result, Ok, Err, if◌then◌else◌}
 use Rattle.std.specs.List.{starts_with, prefix_len, list_any}
 use Rattle.st_dates.specs.declared.system.System.{System}
 use Rattle.st_dates.specs.declared.system.System.TheVariants as systems

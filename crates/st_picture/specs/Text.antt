@@ -1,11 +1,10 @@
 -- The text of a cell: the picture with what its marks print. Source: Time Required Reading, on time pictures.
-use Rattle.std.specs.Prelude.{◌≡◌, ℕ, ◌+◌, ◌-◌, ◌*◌, ◌/◌, ◌%◌, ◌^◌, ◌<◌, ◌≤◌, ◌⊎◌, nat_lt, ℤ, pos, ◌+ℤ◌, ◌≤ℤ◌, ◌<ℤ◌, unsigned_abs, List, [], ◌∷◌, ◌++◌, take, codes, if◌then◌else◌}
+use Rattle.std.specs.Prelude.{◌≡◌, ℕ, ◌+◌, ◌-◌, ◌*◌, ◌/◌, ◌%◌, ◌^◌, ◌<◌, ◌≤◌, ◌⊎◌, nat_lt, ℤ, pos, unsigned_abs, List, [], ◌∷◌, ◌++◌, take, codes, if◌then◌else◌}
 use Rattle.std.specs.List.{flat_map}
 use Rattle.st_text.specs.Bytes.{padded}
 use Rattle.st_decimal.specs.Fixed.{decimals, fixed}
 use Rattle.st_dates.specs.Civil.{IsCivil}
 use Rattle.st_dates.specs.Names.{lowered, name_of_month, name_of_weekday}
-use Rattle.st_dates.specs.declared.civil.Civil.{Civil}
 use Rattle.st_picture.specs.declared.cell.Cell.{Cell}
 use Rattle.st_picture.specs.declared.cell.Cell.TheVariants as cells
 use Rattle.st_picture.specs.declared.mark.Case.{Case}

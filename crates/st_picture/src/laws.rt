@@ -1,7 +1,7 @@
 //! Laws of the definitions by which cells and pictures are told. Each function does nothing; its
 //! contract is the law.
 
-ghost use Rattle.st_picture.specs.Laws.{CellBetween, CellOfFloor, CellsNeverFall, EachHasCell, EachHasCut, HalvesAreUnits, OneCell, OneCut, OneReading};
+ghost use Rattle.st_picture.specs.Laws.{CalendarCells, CalendarTexts, CellBetween, CellOfFloor, CellsAreOfUnit, CellsNeverFall, DefaultsAreRead, EachHasCell, EachHasCut, HalvesAreUnits, OneCell, OneCut, OneReading, OneText, SecondsTexts};
 
 /// Each value from the year 4 on has a cell, whatever fraction of a second it is.
 pub fn each_has_cell()
@@ -46,4 +46,34 @@ pub fn one_cut()
 /// No text has two answers as a picture for a system.
 pub fn one_reading()
     ensures { OneReading }
+{}
+
+/// The cells of a unit have the unit's form.
+pub fn cells_are_of_unit()
+    ensures { CellsAreOfUnit }
+{}
+
+/// A cell has one text by a picture.
+pub fn one_text()
+    ensures { OneText }
+{}
+
+/// `YYYY-MM-DDTHR:MN:SC.###` and `SP2000.######` are pictures, the latter for all systems but UTC.
+pub fn defaults_are_read()
+    ensures { DefaultsAreRead }
+{}
+
+/// `YYYY-MM-DDTHR:MN:SC.###` prints of a day and its milliseconds the plain formula, and nothing else.
+pub fn calendar_cells()
+    ensures { CalendarCells }
+{}
+
+/// `YYYY-MM-DDTHR:MN:SC.###` prints of a value the plain formula of its label, and nothing else.
+pub fn calendar_texts()
+    ensures { CalendarTexts }
+{}
+
+/// `SP2000.######` prints of a value its microseconds, truncated downwards, and nothing else.
+pub fn seconds_texts()
+    ensures { SecondsTexts }
 {}

@@ -51,9 +51,13 @@ impl Model for Picture {
 }
 
 impl Picture {
-    ghost use Rattle.st_picture.specs.Cell.{IsCellOf, IsPrintable, IsUnit};
-    ghost use Rattle.st_picture.specs.Reading.{IsSecondsAlone, ReadsPicture};
-    ghost use Rattle.st_picture.specs.Printing.{PrintsIn};
+    ghost use Rattle.std.specs.Prelude.{ℕ, List, Result};
+    ghost use Rattle.st_picture.specs.Cell.{IsCellOf, IsOfUnit, IsPrintable, IsUnit};
+    ghost use Rattle.st_picture.specs.Picture.{Picture as ThePicture};
+    ghost use Rattle.st_picture.specs.Reading.{Agree, IsSecondsAlone, ReadsPicture};
+    ghost use Rattle.st_picture.specs.Printing.{AreOneAnswer, PrintsIn};
+    ghost use Rattle.st_picture.specs.declared.fault.PictureFault.{PictureFault as Fault};
+    ghost use Rattle.st_picture.specs.declared.fault.PrintFault.{PrintFault as Refusal};
     ghost use Rattle.st_dates.specs.declared.system.System.TheVariants.{Utc};
 
     /// Reads a picture for times of a system. It is read from left to right: at each place the longest
@@ -64,7 +68,9 @@ impl Picture {
     /// [`PictureFault`]: the first rule that the text breaks, in the order of its variants; or want of
     /// memory.
     pub fn read(alloc: Global, text: &[u8], system: System) -> Result<Picture, PictureFault>
-        ensures { ReadsPicture system text.now result }
+        ensures reads { ReadsPicture system text.now result }
+        // No other answer meets it, unless memory was refused.
+        ensures only { (answer : Result ThePicture Fault) → ReadsPicture system text.now answer → Agree result answer }
     {
         if text.len() > MOST_BYTES {
             return Err(PictureFault::TooLong);
@@ -81,6 +87,7 @@ impl Picture {
         requires leaps { self.now.system ≡ Utc → IsSome leaps }
         requires range { IsPrintable value }
         ensures cell { IsCellOf self.now (option_map (λ t. t.now) leaps.entry) (units value) result }
+        ensures form { IsOfUnit self.now.unit result }
         ensures shown { IsCellShown result }
         // The unit has at most nine decimals.
         ensures unit { IsUnit self.now.unit }
@@ -95,7 +102,9 @@ impl Picture {
     /// Want of memory alone.
     pub fn print_cell(&self, alloc: Global, cell: Cell) -> Result<Line, OutOfMemory>
         requires { IsCellShown cell }
-        ensures { IfOk result (IsTextOf self.now.pieces cell) }
+        ensures text { IfOk result (IsTextOf self.now.pieces cell) }
+        // A cell of this picture's unit has no other text.
+        ensures only { IfOk result (λ text. IsOfUnit self.now.unit cell → (other : List ℕ) → IsTextOf self.now.pieces cell other → text ≡ other) }
     {
         text_of(alloc, self.pieces.as_slice(), cell)
     }
@@ -123,7 +132,9 @@ impl Picture {
         requires leaps { self.now.system ≡ Utc → IsSome leaps }
         requires lo { IsPrintable value.lo }
         requires hi { IsPrintable value.hi }
-        ensures { PrintsIn self.now (option_map (λ t. t.now) leaps.entry) value.lo value.hi result }
+        ensures prints { PrintsIn self.now (option_map (λ t. t.now) leaps.entry) value.lo value.hi result }
+        // No other answer meets it, unless memory was refused.
+        ensures only { (answer : Result (List ℕ) Refusal) → PrintsIn self.now (option_map (λ t. t.now) leaps.entry) value.lo value.hi answer → AreOneAnswer result answer }
     {
         let lo = self.cell_of(value.lo, leaps);
         let hi = self.cell_of(value.hi, leaps);

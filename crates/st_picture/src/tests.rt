@@ -50,6 +50,11 @@ fn prints_counts(rt: HostRuntime) -> Result<(), Fail> {
         ("SP2000.###", 64_183_927_000_000_000_000, "64.183"),
         ("SP2000.###::RND", 64_183_927_000_000_000_000, "64.184"),
         ("SP2000.######", 64_183_927_268_000_000_000, "64.183927"),
+        (
+            "YYYY-MM-DDTHR:MN:SC.###",
+            64_183_927_268_000_000_000,
+            "2000-01-01T12:01:04.183",
+        ),
         ("SP2000", -SECOND / 2, "-1"),
         ("SP2000::RND", -SECOND / 2, "0"),
         ("SP2000.###", -SECOND / 2, "-0.500"),
@@ -69,6 +74,9 @@ fn prints_utc(rt: HostRuntime) -> Result<(), Fail> {
     let inserted = 536_500_836_700 * MILLI;
     let removed = 946_728_035_500 * MILLI;
     let one = 36_035 * SECOND;
+    let almost = 34_999_999_700_000_000_000;
+    let all =
+        "YYYY MM MON Mon mon MONTH Month month DD DOY WKD Wkd wkd WEEKDAY Weekday weekday HR AP MN SC.### AMPM ampm::UTC";
     let rows = [
         ("YYYY-MM-DDTHR:MN:SC", inserted, "2016-12-31T23:59:60"),
         (
@@ -97,6 +105,22 @@ fn prints_utc(rt: HostRuntime) -> Result<(), Fail> {
             "SAT JAN 01, 2000 01:00 P.M. (13)",
         ),
         ("Weekday DOY", one, "Saturday 001"),
+        ("YYYY-MM-DDTHR:MN:SC.###", almost, "2000-01-01T11:59:59.999"),
+        (
+            "YYYY-MM-DDTHR:MN:SC.###::RND",
+            almost,
+            "2000-01-01T12:00:00.000",
+        ),
+        (
+            all,
+            inserted,
+            "2016 12 DEC Dec dec DECEMBER December december 31 366 SAT Sat sat SATURDAY Saturday saturday 23 11 59 60.700 P.M. p.m.",
+        ),
+        (
+            all,
+            removed,
+            "2029 12 DEC Dec dec DECEMBER December december 31 365 MON Mon mon MONDAY Monday monday 23 11 59 58.500 P.M. p.m.",
+        ),
     ];
     for row in rows {
         prints(&rt, rt.alloc(), &table, System::Utc, row)?;
@@ -111,65 +135,97 @@ fn prints_dates(rt: HostRuntime) -> Result<(), Fail> {
         "YYYY MM MON Mon mon MONTH Month month DD DOY WKD Wkd wkd WEEKDAY Weekday weekday HR AP MN SC.### AMPM ampm::TAI";
     let rows = [
         (
-            all,
             -6_311_390_400_000 * MILLI,
             "1800 01 JAN Jan jan JANUARY January january 01 001 WED Wed wed WEDNESDAY Wednesday wednesday 00 12 00 00.000 A.M. a.m.",
+            "-6311390400.000",
+            "2378496.5000",
         ),
         (
-            all,
             6_311_390_399_999 * MILLI,
             "2199 12 DEC Dec dec DECEMBER December december 31 365 TUE Tue tue TUESDAY Tuesday tuesday 23 11 59 59.999 P.M. p.m.",
+            "6311390399.999",
+            "2524593.4999",
         ),
         (
-            all,
             5_097_600_000 * MILLI,
             "2000 02 FEB Feb feb FEBRUARY February february 29 060 TUE Tue tue TUESDAY Tuesday tuesday 12 12 00 00.000 P.M. p.m.",
+            "5097600.000",
+            "2451604.0000",
         ),
         (
-            all,
             5_054_400_000 * MILLI,
             "2000 02 FEB Feb feb FEBRUARY February february 29 060 TUE Tue tue TUESDAY Tuesday tuesday 00 12 00 00.000 A.M. a.m.",
+            "5054400.000",
+            "2451603.5000",
         ),
         (
-            all,
             -3_150_619_200_001 * MILLI,
             "1900 02 FEB Feb feb FEBRUARY February february 28 059 WED Wed wed WEDNESDAY Wednesday wednesday 23 11 59 59.999 P.M. p.m.",
+            "-3150619200.001",
+            "2415079.4999",
         ),
         (
-            all,
             -86_400_500 * MILLI,
             "1999 12 DEC Dec dec DECEMBER December december 31 365 FRI Fri fri FRIDAY Friday friday 11 11 59 59.500 A.M. a.m.",
+            "-86400.500",
+            "2451543.9999",
         ),
         (
-            all,
             0 * MILLI,
             "2000 01 JAN Jan jan JANUARY January january 01 001 SAT Sat sat SATURDAY Saturday saturday 12 12 00 00.000 P.M. p.m.",
+            "0.000",
+            "2451545.0000",
         ),
         (
-            all,
             -932_468_276_996 * MILLI,
             "1970 06 JUN Jun jun JUNE June june 15 166 MON Mon mon MONDAY Monday monday 01 01 02 03.004 A.M. a.m.",
+            "-932468276.996",
+            "2440752.5430",
         ),
         (
-            all,
             536_500_799_000 * MILLI,
             "2016 12 DEC Dec dec DECEMBER December december 31 366 SAT Sat sat SATURDAY Saturday saturday 23 11 59 59.000 P.M. p.m.",
+            "536500799.000",
+            "2457754.4999",
         ),
         (
-            all,
             3_160_863_000_000 * MILLI,
             "2100 03 MAR Mar mar MARCH March march 01 060 MON Mon mon MONDAY Monday monday 13 01 30 00.000 P.M. p.m.",
+            "3160863000.000",
+            "2488129.0625",
         ),
         (
-            all,
             779_946_330_250 * MILLI,
             "2024 09 SEP Sep sep SEPTEMBER September september 18 262 WED Wed wed WEDNESDAY Wednesday wednesday 15 03 45 30.250 P.M. p.m.",
+            "779946330.250",
+            "2460572.1566",
         ),
         (
-            all,
             -960_910_940_000 * MILLI,
             "1969 07 JUL Jul jul JULY July july 20 201 SUN Sun sun SUNDAY Sunday sunday 20 08 17 40.000 P.M. p.m.",
+            "-960910940.000",
+            "2440423.3456",
         ),
+    ];
+    for (value, text, seconds, julian) in rows {
+        for row in [
+            (all, value, text),
+            ("SP2000.###", value, seconds),
+            ("JULIAND.####", value, julian),
+        ] {
+            prints(&rt, rt.alloc(), &table, System::Tai, row)?;
+        }
+    }
+    Ok(())
+}
+
+#[test]
+fn prints_words(rt: HostRuntime) -> Result<(), Fail> {
+    let table = leaps(rt.alloc())?;
+    let rows = [
+        ("Weekday, DD Month YYYY", 0, "Saturday, 01 January 2000"),
+        ("AP:MN ampm", 0, "12:00 p.m."),
+        ("YYYY-DOY", 0, "2000-001"),
     ];
     for row in rows {
         prints(&rt, rt.alloc(), &table, System::Tai, row)?;

@@ -1,5 +1,4 @@
-use Rattle.std.proofs.Common.{◌≡◌, ◌++◌, ◌≤◌, length}
-use Rattle.st_picture.specs.Mark.{spelled}
+use Rattle.std.proofs.Common.{length}
 use Rattle.st_picture.proofs.CutLoop.{IsCutSoFar}
 use Rattle.st_picture.proofs.cut.cut.Given as goal
 

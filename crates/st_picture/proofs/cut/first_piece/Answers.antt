@@ -1,4 +1,4 @@
-use Rattle.std.proofs.Common.{◌≡◌, ◌∙◌, ap, ◌++◌, ◌<◌, List, ℕ, drop, length, sym, arith, length-append}
+use Rattle.std.proofs.Common.{◌≡◌, ◌∙◌, ap, ◌++◌, List, ℕ, drop, length, sym, arith, length-append}
 use Rattle.st_picture.specs.Mark.{piece_text}
 use Rattle.st_picture.proofs.Cuts.{piece_some}
 use Rattle.st_picture.proofs.CutLoop.{fits, behind}

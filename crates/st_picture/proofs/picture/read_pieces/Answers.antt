@@ -1,4 +1,5 @@
-use Rattle.std.proofs.Common.{sym}
+use Rattle.std.proofs.Common.{inl, lit<}
+use Rattle.st_picture.specs.declared.fault.PictureFault.TheVariants.{MixedForms}
 use Rattle.st_picture.proofs.ReadLaws.{told_of, fault_read, picture_read, unit_kept, places_kept}
 use Rattle.st_picture.proofs.picture.read_pieces.Goals as goal
 
@@ -16,4 +17,6 @@ invariant_of-result c =
     record {
       places = places_kept c.args.system c.args.text.now c.in_ok-pieces.pieces.items (c.in-Ok.unit, c.in-Ok.rounds) told;
       unit_few = unit_kept c.args.system c.args.text.now c.in_ok-pieces.pieces.items (c.in-Ok.unit, c.in-Ok.rounds) told;
+      least = told.0;
+      alone = λ beside. told.2 MixedForms (lit< tt) (inl beside);
     }

@@ -1,11 +1,9 @@
-use Rattle.std.proofs.Common.{◌≡◌, ℕ, ◌+◌, ◌-◌, ◌*◌, ◌/◌, ◌^◌, ◌<◌, ◌≤◌, refl, sym, ap, ◌∙◌, subst, arith, lit<, lit≤, ℤ, pos, neg_ℤ, ◌+ℤ◌, ◌-ℤ◌, ◌*ℤ◌, ◌≤ℤ◌, ◌<ℤ◌}
+use Rattle.std.proofs.Common.{◌≡◌, ◌∙◌, arith}
 use Rattle.std.proofs.lemmas.Int.{ints, to_z-of_z}
 use Rattle.std.specs.Int.{w128, int_div_euclid}
 use Rattle.st_leaps.proofs.Casts.{kept128}
-use Rattle.st_picture.proofs.CellLaws.{tens_some}
-use Rattle.st_picture.proofs.ValueLaws.{tens_range, quotient_is, counted, dated_by, IsCut, cut_is, cut_from, truncated_is, rounded}
+use Rattle.st_picture.proofs.ValueLaws.{cut_is, cut_from}
 use Rattle.st_picture.proofs.value.cut.Goals as goal
-use mir.Val.{to_z, of_z, SFits}
 
 pub overflow_mul-result : goal.overflow_mul-result
 overflow_mul-result c =

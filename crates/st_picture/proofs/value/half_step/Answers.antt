@@ -1,14 +1,7 @@
-use Rattle.std.proofs.Common.{◌≡◌, ℕ, ◌+◌, ◌-◌, ◌*◌, ◌/◌, ◌^◌, ◌<◌, ◌≤◌, refl, sym, ap, ◌∙◌, subst, arith, lit<, lit≤, ℤ, pos, neg_ℤ, ◌+ℤ◌, ◌-ℤ◌, ◌*ℤ◌, ◌≤ℤ◌, ◌<ℤ◌, rules}
-use Rattle.std.proofs.lemmas.Int.{ints, to_z-of_z}
-use Rattle.std.specs.Int.{w32, w128, int_div_euclid}
-use Rattle.st_leaps.proofs.Casts.{kept128}
-use Rattle.st_picture.specs.Cell.{capped}
-use Rattle.st_picture.specs.declared.cell.Cell.{Cell}
-use Rattle.st_picture.specs.declared.cell.Cell.TheVariants as cells
-use Rattle.st_picture.proofs.CellLaws.{tens_some}
-use Rattle.st_picture.proofs.ValueLaws.{tens_range, counted, dated_by, truncated_is, half_steps, half_most, small_pos, julian_half, second_half, count_half}
+use Rattle.std.proofs.Common.{◌≡◌, ◌-◌, ◌*◌, ◌/◌, ◌^◌, arith}
+use Rattle.std.proofs.lemmas.Int.{ints}
+use Rattle.st_picture.proofs.ValueLaws.{half_steps, half_most, small_pos}
 use Rattle.st_picture.proofs.value.half_step.Goals as goal
-use mir.Val.{to_z, of_z, SFits}
 
 pub returns-clause-value : goal.returns-clause-value
 returns-clause-value c =

@@ -1,14 +1,11 @@
-use Rattle.std.proofs.Common.{◌≡◌, ℕ, ◌+◌, ◌-◌, ◌*◌, ◌/◌, ◌^◌, ◌<◌, ◌≤◌, refl, sym, ap, ◌∙◌, subst, arith, lit<, lit≤, ℤ, pos, neg_ℤ, ◌+ℤ◌, ◌-ℤ◌, ◌*ℤ◌, ◌≤ℤ◌, ◌<ℤ◌, rules}
-use Rattle.std.proofs.lemmas.Int.{ints, to_z-of_z}
+use Rattle.std.proofs.Common.{◌≡◌, ◌*◌, ◌^◌, ap, ◌∙◌, lit<, ℤ, pos, ◌*ℤ◌, rules}
 use Rattle.std.specs.Int.{w32, w128, int_div_euclid}
 use Rattle.st_leaps.proofs.Casts.{kept128}
 use Rattle.st_picture.specs.Cell.{capped}
-use Rattle.st_picture.specs.declared.cell.Cell.{Cell}
 use Rattle.st_picture.specs.declared.cell.Cell.TheVariants as cells
-use Rattle.st_picture.proofs.CellLaws.{tens_some}
-use Rattle.st_picture.proofs.ValueLaws.{tens_range, counted, dated_by, truncated_is, half_steps, small_pos, julian_half, second_half, count_half}
+use Rattle.st_picture.proofs.ValueLaws.{truncated_is}
 use Rattle.st_picture.proofs.value.minute_cell.Goals as goal
-use mir.Val.{to_z, of_z, SFits}
+use mir.Val.{to_z, of_z}
 
 pub returns-clause-cell : goal.returns-clause-cell
 returns-clause-cell c =
