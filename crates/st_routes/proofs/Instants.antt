@@ -3,13 +3,14 @@ use Rattle.std.proofs.Common.{◌≡◌, ◌⊎◌, inl, inr, ◌^◌, ℕ, ◌*
 use Rattle.std.proofs.lemmas.Int.{ints, by_lt_z}
 use Rattle.st_fraction.specs.Fraction.{units, whole}
 use Rattle.st_dates.specs.Label.{formal}
-use Rattle.st_dates.specs.Range.{LiesInRange}
+use Rattle.st_dates.specs.Range.{IsInRange, LiesInRange}
 use Rattle.st_dates.specs.declared.label.Label.{Label}
 use Rattle.st_dates.specs.declared.system.System.{System}
 use Rattle.st_leaps.specs.Label.{AreCounts, IsLabel, IsLabelOf, in_units, length_of}
+use Rattle.st_leaps.specs.Laws.{EachTableCounts, EvenDaysCount}
 use Rattle.st_leaps.specs.declared.fault.NoSuchSecond.{NoSuchSecond}
 use Rattle.st_leaps.specs.declared.table.LeapTable.{LeapTable}
-use Rattle.st_forms.specs.Reading.{ReadsTime}
+use Rattle.st_forms.specs.Reading.{ReadsTime, calendar, julian, plain}
 use Rattle.st_forms.specs.declared.form.Form.{Form}
 use Rattle.st_forms.specs.declared.fault.FormFault.{FormFault}
 use Rattle.st_forms.specs.declared.fault.FormFault.TheVariants as forms
@@ -18,8 +19,8 @@ use Rattle.st_forms.specs.declared.time.TimeText.TheVariants.{Label as OfLabel, 
 use Rattle.st_forms.specs.Laws.{EachHasAnswer, OneAnswer}
 use Rattle.st_picture.specs.Cell.{days_of, leaps_for}
 use Rattle.st_routes.specs.FaultSteps.{of_form}
-use Rattle.st_routes.specs.Laws.{EachTextGivesInstant, OneInstant}
-use Rattle.st_routes.specs.Route.{IsSource}
+use Rattle.st_routes.specs.Laws.{EachTextGivesInstant, InstantIsSource, OneInstant}
+use Rattle.st_routes.specs.Route.{IsNearby, IsSource}
 use Rattle.st_routes.specs.Source.{IsInstant, HasNoSecond, InstantGives}
 use Rattle.st_routes.specs.declared.fault.TimeFault.{TimeFault}
 use Rattle.st_routes.specs.declared.fault.TimeFault.TheVariants as faults
@@ -126,3 +127,42 @@ pub source_of_answer : (count : ℤ → ℤ) (label : Label) (answer : Result �
     → MatchResult answer (λ u. IsLabelOf count (units u) (in_units label)) (λ _. IsLabel count (in_units label) → ⊥) → IfOk answer IsSource
 source_of_answer count label (Ok u) counts range is = source_of_label count label u counts range is
 source_of_answer count label (Err e) counts range is = tt
+
+-- a text's label is the one whose formal count is in the range
+abbrev HasRange : Result TimeText FormFault → Type 0
+HasRange (Ok (OfLabel label)) = LiesInRange label
+HasRange (Ok (Instant z)) = IsInRange z
+HasRange (Ok NoSecond) = Unit {0}
+HasRange (Err fault) = Unit {0}
+
+range_of : OneAnswer → (text : List ℕ) (system : System) (form : Form) (time : TimeText) → ReadsTime text system form (Ok time) → HasRange (Ok time)
+range_of one text system form (OfLabel label) (calendar date t scale, spells, names, (z, (other, is, e), inside), stands) =
+    let w = calendar date t scale in
+    let reads : ReadsTime text system form (Ok (OfLabel label)) = (w, spells, names, (z, (other, is, e), inside), stands) in
+    let again : ReadsTime text system form (Ok (OfLabel other)) = (w, spells, names, (z, (other, is, e), inside), (is, stands.1)) in
+    let same = one text system form (Ok (OfLabel other)) (Ok (OfLabel label)) again reads in
+    subst HasRange same (subst IsInRange e inside)
+range_of one text system form (OfLabel label) (julian mark gap days scale, spells, names, inside, stands) = absurd stands
+range_of one text system form (OfLabel label) (plain sign seconds, spells, names, inside, stands) = absurd stands
+range_of one text system form (Instant x) (calendar date t scale, spells, names, inside, stands) = absurd stands
+range_of one text system form (Instant x) (julian mark gap days scale, spells, names, (z, is, inside), stands) = subst IsInRange (is ∙ sym stands) inside
+range_of one text system form (Instant x) (plain sign seconds, spells, names, (z, is, inside), stands) = subst IsInRange (is ∙ sym stands) inside
+range_of one text system form NoSecond reads = tt
+
+counts : EachTableCounts → EvenDaysCount → (leaps : Option LeapTable) → AreCounts (days_of leaps)
+counts tables even None = even
+counts tables even (Some table) = tables table
+
+source_of_time : EachTableCounts → EvenDaysCount → (system : System) (leaps : Option LeapTable) (time : TimeText) (u : ℤ) → HasRange (Ok time) → IsInstant system leaps time u → IsSource u
+source_of_time tables even system leaps (OfLabel label) u range is =
+    source_of_label (days_of (leaps_for system leaps)) label u (counts tables even (leaps_for system leaps)) range is
+source_of_time tables even system leaps (Instant z) u (low, high) is = (omega (arith, ints, is), omega (arith, ints, is))
+source_of_time tables even system leaps NoSecond u range is = absurd is
+
+nearby : (u : ℤ) → IsSource u → IsNearby (units u)
+nearby u (low, high) = record { from = record { le = omega (arith, ints) }; to = record { le = omega (arith, ints) } }
+
+pub instant_is_source : OneAnswer → EachTableCounts → EvenDaysCount → InstantIsSource
+instant_is_source one tables even system form leaps text u (time, reads, is) =
+    let source = source_of_time tables even system leaps time u (range_of one text system form time reads) is in
+    (source, nearby u source)

@@ -5,3 +5,4 @@ pub mod Numbers
 pub mod Bounds
 pub mod Printed
 pub mod Outcomes
+pub mod Texts

@@ -6,26 +6,22 @@ use Rattle.st_fraction.specs.Fraction.{Fraction, IsFraction, ◌≤ᶠ◌, ◌<�
 use Rattle.st_fraction.proofs.Order.{le_f_trans}
 use Rattle.st_fraction.proofs.Placed.{Placed, plus, minus, number, lowered, raised, placed}
 use Rattle.st_leaps.specs.Label.{AreCounts}
-use Rattle.st_leaps.specs.Laws.{EachTableCounts, EvenDaysCount}
 use Rattle.st_leaps.specs.declared.table.LeapTable.{LeapTable}
 use Rattle.st_picture.specs.Cell.{◌≤ᶜ◌, days_of, leaps_for}
-use Rattle.st_picture.specs.Laws.{CellBetween, CellsNeverFall, EachHasCell}
 use Rattle.st_picture.specs.declared.cell.Cell.{Cell}
 use Rattle.st_picture.specs.declared.cell.Cell.TheVariants as cells
-use Rattle.st_scales.specs.Laws.{RouteAgrees, RouteIsExact, RouteIsKnown, RouteIsNear}
-use Rattle.st_clock.specs.Laws.{TickBetween, TickIsFound, TickRises}
 use Rattle.st_clock.specs.Tick.{IsNoLater}
 use Rattle.st_clock.specs.declared.ticks.Ticks.{Ticks}
 use Rattle.st_clock.specs.declared.ticks.Ticks.TheVariants.{Before, At, After}
 use Rattle.st_routes.specs.LawSteps.{AreKnown}
-use Rattle.st_routes.specs.Laws.{IsTarget, OneOutcome, OutcomeIsExact, EachHasOutcome}
+use Rattle.st_routes.specs.Laws.{IsTarget, OneOutcome, OutcomeIsExact}
 use Rattle.st_routes.specs.Outcome.{Outcome, Target, in_cell, at_tick, by_picture, by_clock, IsOutcome, MayPrint, MayBeUndecided}
 use Rattle.st_routes.specs.Route.{IsAtLeast, IsAtMost, HasSineOnIt, HasNoSineOnIt, IsNearby, shifted}
 use Rattle.st_routes.specs.declared.route.Route.{Route}
 use Rattle.st_routes.specs.declared.route.Route.TheVariants.{Same, Scales}
 use Rattle.st_routes.proofs.Bounds.{agrees, exact_bounds, near_below, shifted_is, sine_or_none}
 
-counts : AreKnown → (leaps : Option LeapTable) → AreCounts (days_of leaps)
+pub counts : AreKnown → (leaps : Option LeapTable) → AreCounts (days_of leaps)
 counts laws None = laws.even
 counts laws (Some table) = laws.tables table
 
@@ -98,7 +94,7 @@ one_outcome laws route r target a b is p m n =
     (agrees laws.agree route r n.low m.high p n.low_is m.high_is n.at_least m.at_most) m.low_has m.high_has n.low_has n.high_has
 
 -- a value from the year 4 on
-abbrev early : Fraction
+abbrev pub early : Fraction
 early = whole (neg_ℤ (pos 63_000_000_000))
 
 found : AreKnown → (target : Target) (v : Fraction) → IsTarget target → IsFraction v → early ≤ᶠ v → (outcome : Outcome) × IsOutcome target v outcome
@@ -258,12 +254,21 @@ outcome_decides (by_picture picture leaps) v w (in_cell a) (at_tick b) h k = abs
 outcome_decides (by_clock clock form) v w (in_cell a) b h k = absurd h
 outcome_decides (by_clock clock form) v w (at_tick a) (in_cell b) h k = absurd k
 
+-- an outcome that may be printed, of a value that is not too early
+pub record IsFound (route : Route) (r : Fraction) (target : Target) : Type 0 where
+  pub outcome : Outcome
+  pub prints : MayPrint route r target outcome
+  pub value : Fraction
+  pub is : IsFraction value
+  pub late : early ≤ᶠ value
+  pub has : IsOutcome target value outcome
+
 abbrev close : Fraction
 close = over (pos 1) (10 ^ 12)
 
 -- where a sine stands, two near bounds have one outcome, or two
 known : AreKnown → (route : Route) (r : Fraction) (target : Target) → IsTarget target → IsFraction r → IsNearby r → HasSineOnIt route
-    → ((outcome : Outcome) × MayPrint route r target outcome) ⊎ MayBeUndecided route r target
+    → IsFound route r target ⊎ MayBeUndecided route r target
 known laws Same r target is p near sine = absurd sine
 known laws (Scales c from to) r target is p near sine =
     let route = Scales c from to in
@@ -273,9 +278,9 @@ known laws (Scales c from to) r target is p near sine =
     let a = found laws target k.low is k.low_is late in
     let b = found laws target k.high is k.high_is (le_f_trans early k.low k.high k.low_is.positive late ordered) in
     elim (outcome_decides target k.low k.high a.0 b.0 a.1 b.1) [
-      | inl e ↦ inl (
-        a.0,
-        record {
+      | inl e ↦ inl (record {
+        outcome = a.0;
+        prints = record {
           low = k.low;
           high = k.high;
           low_is = k.low_is;
@@ -284,8 +289,12 @@ known laws (Scales c from to) r target is p near sine =
           at_most = k.at_most;
           low_has = a.1;
           high_has = subst (λ o. IsOutcome target k.high o) (sym e) b.1;
-        },
-      )
+        };
+        value = k.low;
+        is = k.low_is;
+        late = late;
+        has = a.1;
+      })
       | inr n ↦ inr (record {
         sine = sine;
         low = k.low;
@@ -304,10 +313,19 @@ known laws (Scales c from to) r target is p near sine =
       })
     ]
 
-pub each_has_outcome : AreKnown → EachHasOutcome
+pub each_has_outcome : AreKnown → (route : Route) (r : Fraction) (target : Target) → IsTarget target → IsFraction r → IsNearby r
+    → IsFound route r target ⊎ MayBeUndecided route r target
 each_has_outcome laws route r target is p near = elim (sine_or_none route) [
   | inl sine ↦ known laws route r target is p near sine
   | inr none ↦
-    let f = found laws target (shifted route r) is (shifted_is route r p) (shifted_late laws route r p near none) in
-    inl (f.0, printed laws route r target f.0 p none f.1)
+    let late = shifted_late laws route r p near none in
+    let f = found laws target (shifted route r) is (shifted_is route r p) late in
+    inl (record {
+      outcome = f.0;
+      prints = printed laws route r target f.0 p none f.1;
+      value = shifted route r;
+      is = shifted_is route r p;
+      late = late;
+      has = f.1;
+    })
 ]

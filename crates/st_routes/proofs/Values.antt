@@ -2,6 +2,8 @@
 use Rattle.std.proofs.Common.{◌≡◌, ℕ, ◌*◌, ◌^◌, ◌<◌, ℤ, pos, neg_ℤ, ◌+ℤ◌, ◌-ℤ◌, ◌*ℤ◌, ◌≤ℤ◌, ◌<ℤ◌, refl, arith, lit<, mul-pos}
 use Rattle.std.proofs.lemmas.Int.{ints, by_lt_z}
 use Rattle.st_fraction.specs.Fraction.{Fraction, IsFraction, ◌≤ᶠ◌, ◌<ᶠ◌, over, units, ◌+ᶠ◌}
+use Rattle.std.specs.Int.Signed.{le_z_yes}
+use Rattle.st_fraction.proofs.Order.{le_f_trans}
 use Rattle.st_fraction.proofs.Ring.{add-mul_z, one-mul_z, le-mul_z}
 use Rattle.st_fraction.proofs.Scale.{IsAt, at_self, at_add, le_at, at_le}
 use Rattle.st_fraction.proofs.Linear.{at_factor}
@@ -9,6 +11,7 @@ use Rattle.st_fraction.proofs.Strict.{lt_at}
 use Rattle.st_dates.specs.Range.{range_start, range_end}
 use Rattle.st_clock.specs.Time.{IsInRange, value_of}
 use Rattle.st_clock.specs.declared.point.Point.{Point}
+use Rattle.st_routes.specs.Laws.{TimeIsSource}
 use Rattle.st_routes.specs.Route.{IsSource}
 
 -- u units and a d-th parts of a unit
@@ -92,3 +95,15 @@ source_of_range time l r =
 
 pub value_is : (time : Point) → time.part < time.of → IsFraction (value_of time)
 value_is time l = record { positive = parted-den time.units time.part time.of (omega arith) }
+
+pub time_is_source : TimeIsSource
+time_is_source clock k time g =
+    let range = g.1.0 in
+    let part = g.1.1.0 in (
+      source_of_range time part range,
+      value_is time part,
+      record {
+        from = le_f_trans (units (neg_ℤ (pos 6_311_391_400_000_000_000_000_000_000))) (units range_start) (value_of time) (lit< tt) (record { le = le_z_yes tt }) range.from;
+        to = le_f_trans (value_of time) (units range_end) (units (pos 6_311_391_400_000_000_000_000_000_001)) (lit< tt) range.to (record { le = le_z_yes tt });
+      },
+    )

@@ -79,9 +79,13 @@ Spells (by_clock clock form) (at_tick Before) (Err BeforeClock) = ⊤
 Spells (by_clock clock form) (at_tick After) (Err AfterClock) = ⊤
 Spells target outcome result = ⊥
 
+-- the answer tells an outcome that may be printed for the source r
+abbrev pub Prints : Route → Fraction → Target → Result (List ℕ) TimeFault → Type 0
+Prints route r target result = (outcome : Outcome) × MayPrint route r target outcome × Spells target outcome result
+
 -- What may be answered for the source r: what tells an outcome that may be printed, or that it is undecided where it may be.
 -- Want of memory may be answered, too.
 abbrev pub RouteGives : Route → Fraction → Target → Result (List ℕ) TimeFault → Type 0
 RouteGives route r target (Err Undecided) = MayBeUndecided route r target
 RouteGives route r target (Err OutOfMemory) = ⊤
-RouteGives route r target result = (outcome : Outcome) × MayPrint route r target outcome × Spells target outcome result
+RouteGives route r target result = Prints route r target result
