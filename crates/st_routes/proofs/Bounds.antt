@@ -17,14 +17,16 @@ sine_or_none Same = inr tt
 sine_or_none (Scales c from to) = elim (cases_Bool (crosses from to)) [
   | inl e ↦ by_lt_z c.k (pos 0) (λ (l : c.k <ℤ pos 0). inl (record { crosses = e; k_some = λ z. below c.k l z }))
       (λ (h : pos 0 ≤ℤ c.k). by_lt_z (pos 0) c.k (λ (l : pos 0 <ℤ c.k). inl (record { crosses = e; k_some = λ z. above c.k l z }))
-          (λ (k : c.k ≤ℤ pos 0). inr (inr (none c.k h k))))
+      (λ (k : c.k ≤ℤ pos 0). inr (inr (none c.k h k))))
   | inr e ↦ inr (inl e)
 ]
   where
     below : (k : ℤ) → k <ℤ pos 0 → k ≡ pos 0 → ⊥
     below k l z = omega (arith, ints, l, z)
+
     above : (k : ℤ) → pos 0 <ℤ k → k ≡ pos 0 → ⊥
     above k l z = omega (arith, ints, l, z)
+
     none : (k : ℤ) → pos 0 ≤ℤ k → k ≤ℤ pos 0 → k ≡ pos 0
     none k a b = omega (arith, ints, a, b)
 

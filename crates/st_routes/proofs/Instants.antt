@@ -95,14 +95,14 @@ label_decides : (count : ℤ → ℤ) (label : Label) → ((u : ℤ) × IsLabelO
 label_decides count label =
     by_lt_z label.of_day (pos 0) (λ (l : label.of_day <ℤ pos 0). inr (λ is. let from = is.from.le in omega (arith, ints, l)))
     (λ (from : pos 0 ≤ℤ label.of_day). by_lt_z label.of_day (length_of count label.day *ℤ pos 1_000_000_000_000_000_000)
-        (λ (to : label.of_day <ℤ (length_of count label.day *ℤ pos 1_000_000_000_000_000_000)). inl (
-          formal label +ℤ (count label.day *ℤ pos 1_000_000_000_000_000_000),
-          record {
-            is_label = record { second_is = record { positive = lit< tt }; from = record { le = omega (arith, ints, from) }; to = record { lt = omega (arith, ints, to) } };
-            value = record { same = omega (arith, ints) };
-          },
-        ))
-        (λ (past : (length_of count label.day *ℤ pos 1_000_000_000_000_000_000) ≤ℤ label.of_day). inr (λ is. let to = is.to.lt in omega (arith, ints, past))))
+    (λ (to : label.of_day <ℤ (length_of count label.day *ℤ pos 1_000_000_000_000_000_000)). inl (
+      formal label +ℤ (count label.day *ℤ pos 1_000_000_000_000_000_000),
+      record {
+        is_label = record { second_is = record { positive = lit< tt }; from = record { le = omega (arith, ints, from) }; to = record { lt = omega (arith, ints, to) } };
+        value = record { same = omega (arith, ints) };
+      },
+    ))
+    (λ (past : (length_of count label.day *ℤ pos 1_000_000_000_000_000_000) ≤ℤ label.of_day). inr (λ is. let to = is.to.lt in omega (arith, ints, past))))
 
 given : (system : System) (form : Form) (leaps : Option LeapTable) (text : List ℕ) (time : TimeText) → ReadsTime text system form (Ok time)
     → (answer : Result ℤ TimeFault) × InstantGives system form leaps text answer

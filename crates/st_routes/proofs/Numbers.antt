@@ -92,8 +92,10 @@ number_found most text = elim (cases_Bool (are_digits text)) [
   where
     short : (n : ℕ) → nat_le 1 n ≡ false → 1 ≤ n → ⊥
     short n h k = let l = failed 1 n h in omega arith
+
     no_digits : (b : Bool) → b ≡ false → IsTrue b → ⊥
     no_digits b e h = omega (arith, ap {B = ℕ} (λ (x : Bool). if x then 1 else 0) (sym h ∙ e))
+
     ranged : IsNumber text → (answer : Result ℕ ClockTextFault) × ReadsNumber most text answer
     ranged is = elim (cases_Bool (nat_le (number_of text) (10 ^ 18))) [
       | inl s ↦ elim (cases_Bool (nat_le (number_of text) most)) [

@@ -148,9 +148,9 @@ pub outcome_is_exact : AreKnown → OutcomeIsExact
 outcome_is_exact laws route r target outcome is p near none = (
   printed laws route r target outcome p none,
   λ m.
-    let f = found laws target (shifted route r) is (shifted_is route r p) (shifted_late laws route r p near none) in
-    let e = one_outcome laws route r target f.0 outcome is p (printed laws route r target f.0 p none f.1) m in
-    subst (λ o. IsOutcome target (shifted route r) o) e f.1,
+      let f = found laws target (shifted route r) is (shifted_is route r p) (shifted_late laws route r p near none) in
+      let e = one_outcome laws route r target f.0 outcome is p (printed laws route r target f.0 p none f.1) m in
+      subst (λ o. IsOutcome target (shifted route r) o) e f.1,
 )
 
 cell_kind : Cell → ℕ
@@ -318,14 +318,14 @@ pub each_has_outcome : AreKnown → (route : Route) (r : Fraction) (target : Tar
 each_has_outcome laws route r target is p near = elim (sine_or_none route) [
   | inl sine ↦ known laws route r target is p near sine
   | inr none ↦
-    let late = shifted_late laws route r p near none in
-    let f = found laws target (shifted route r) is (shifted_is route r p) late in
-    inl (record {
-      outcome = f.0;
-      prints = printed laws route r target f.0 p none f.1;
-      value = shifted route r;
-      is = shifted_is route r p;
-      late = late;
-      has = f.1;
-    })
+      let late = shifted_late laws route r p near none in
+      let f = found laws target (shifted route r) is (shifted_is route r p) late in
+      inl (record {
+        outcome = f.0;
+        prints = printed laws route r target f.0 p none f.1;
+        value = shifted route r;
+        is = shifted_is route r p;
+        late = late;
+        has = f.1;
+      })
 ]

@@ -99,7 +99,7 @@ exact_prints exact floor route time picture leaps lo cell text none part is unit
     let bounds = exact_bounds exact route r r_is none in
     let has_lo = subst (λ (z : ℤ). IsCellOf picture leaps (units z) cell) is has in
     let has_v = floor picture.unit picture.rounds (days_of (leaps_for picture.system leaps)) v (time.units +ℤ shift route) cell unit (shifted_is route r r_is)
-            (from_unit time.units (shift route) time.part time.of some) (before_next time.units (shift route) time.part time.of part) has_lo in (
+    (from_unit time.units (shift route) time.part time.of some) (before_next time.units (shift route) time.part time.of part) has_lo in (
       in_cell cell,
       record {
         low = v;

@@ -172,46 +172,46 @@ failed m n h = grind (arith, nat_tests)
 minutes_found : (h n : ℕ) → h ≤ 23 → (n < hour_units) ⊎ (h ≡ 23) → HasClock (h * hour_units + n)
 minutes_found h n few short = elim (cases_Bool (nat_le (59 * minute_units) n)) [
   | inl e ↦
-    let l = passed (59 * minute_units) n e in
-    record {
-      hour = h;
-      minute = 59;
-      second = n - 59 * minute_units;
-      sum = omega (arith, l);
-      hours = few;
-      minutes = omega arith;
-      within = elim short [
-        | inl s ↦ inl (omega (arith, l, s))
-        | inr s ↦ inr (s, refl)
-      ];
-    }
+      let l = passed (59 * minute_units) n e in
+      record {
+        hour = h;
+        minute = 59;
+        second = n - 59 * minute_units;
+        sum = omega (arith, l);
+        hours = few;
+        minutes = omega arith;
+        within = elim short [
+          | inl s ↦ inl (omega (arith, l, s))
+          | inr s ↦ inr (s, refl)
+        ];
+      }
   | inr e ↦
-    let l = failed (59 * minute_units) n e in
-    let low = div-mul-le_self n minute_units in
-    let high = lt-div-mul-add {a = n} {b = minute_units} (lit< tt) in
-    record {
-      hour = h;
-      minute = n / minute_units;
-      second = n - n / minute_units * minute_units;
-      sum = omega (arith, low);
-      hours = few;
-      minutes = omega (arith, low, l);
-      within = inl (omega (arith, low, high));
-    }
+      let l = failed (59 * minute_units) n e in
+      let low = div-mul-le_self n minute_units in
+      let high = lt-div-mul-add {a = n} {b = minute_units} (lit< tt) in
+      record {
+        hour = h;
+        minute = n / minute_units;
+        second = n - n / minute_units * minute_units;
+        sum = omega (arith, low);
+        hours = few;
+        minutes = omega (arith, low, l);
+        within = inl (omega (arith, low, high));
+      }
 ]
 
 clock_found : (n : ℕ) → HasClock n
 clock_found n = elim (cases_Bool (nat_le (23 * hour_units) n)) [
   | inl e ↦
-    let l = passed (23 * hour_units) n e in
-    let split : 23 * hour_units + (n - 23 * hour_units) ≡ n = omega (arith, l) in
-    subst HasClock split (minutes_found 23 (n - 23 * hour_units) (omega arith) (inr refl))
+      let l = passed (23 * hour_units) n e in
+      let split : 23 * hour_units + (n - 23 * hour_units) ≡ n = omega (arith, l) in
+      subst HasClock split (minutes_found 23 (n - 23 * hour_units) (omega arith) (inr refl))
   | inr e ↦
-    let l = failed (23 * hour_units) n e in
-    let low = div-mul-le_self n hour_units in
-    let high = lt-div-mul-add {a = n} {b = hour_units} (lit< tt) in
-    let split : n / hour_units * hour_units + (n - n / hour_units * hour_units) ≡ n = omega (arith, low) in
-    subst HasClock split (minutes_found (n / hour_units) (n - n / hour_units * hour_units) (omega (arith, low, l)) (inl (omega (arith, low, high))))
+      let l = failed (23 * hour_units) n e in
+      let low = div-mul-le_self n hour_units in
+      let high = lt-div-mul-add {a = n} {b = hour_units} (lit< tt) in
+      let split : n / hour_units * hour_units + (n - n / hour_units * hour_units) ≡ n = omega (arith, low) in
+      subst HasClock split (minutes_found (n / hour_units) (n - n / hour_units * hour_units) (omega (arith, low, l)) (inl (omega (arith, low, high))))
 ]
 
 -- what a cell shows
@@ -248,14 +248,15 @@ truncated_from step second z some from is t =
     let above = le_lt_f (whole (pos 0)) second (units (z +ℤ pos step)) (lit< tt) from t.to in
     let l : pos 0 <ℤ (z +ℤ pos step) = omega (arith, ints, above.lt) in
     by_lt_z t.times (pos 0) (λ (s : t.times <ℤ pos 0).
-        let m = le-mul_z t.times (neg_ℤ (pos 1)) step (omega (arith, ints, s)) in
-        absurd (never z (t.times *ℤ pos step) (neg_ℤ (pos 1) *ℤ pos step) step t.multiple m l (omega (arith, ints))))
-        (λ (s : pos 0 ≤ℤ t.times).
-        let m = le-mul_z (pos 0) t.times step s in
-        at_least_zero z (t.times *ℤ pos step) (pos 0 *ℤ pos step) t.multiple m (omega (arith, ints)))
+    let m = le-mul_z t.times (neg_ℤ (pos 1)) step (omega (arith, ints, s)) in
+    absurd (never z (t.times *ℤ pos step) (neg_ℤ (pos 1) *ℤ pos step) step t.multiple m l (omega (arith, ints))))
+    (λ (s : pos 0 ≤ℤ t.times).
+    let m = le-mul_z (pos 0) t.times step s in
+    at_least_zero z (t.times *ℤ pos step) (pos 0 *ℤ pos step) t.multiple m (omega (arith, ints)))
   where
     never : (z x y : ℤ) (step : ℕ) → z ≡ x → x ≤ℤ y → pos 0 <ℤ (z +ℤ pos step) → y ≡ neg_ℤ (pos step) → ⊥
     never z x y step e h l f = omega (arith, ints, e, h, l, f)
+
     at_least_zero : (z x y : ℤ) → z ≡ x → y ≤ℤ x → y ≡ pos 0 → pos 0 ≤ℤ z
     at_least_zero z x y e h f = omega (arith, ints, e, h, f)
 
@@ -314,7 +315,7 @@ shown_found laws least.Minute rounds leaps v cell p late h =
     let cap : ℤ = pos (86_340 * 10 ^ 18) in
     subst HasShown (sym h.is_cell.2)
     (day_shown laws leaps w h.label (capped cap z) (truncated_is least.Minute rounds v p) (truncated_late least.Minute rounds v p late) h.is_label
-        (capped_from cap z (omega (arith, ints)) from))
+    (capped_from cap z (omega (arith, ints)) from))
 shown_found laws least.Hour rounds leaps v cell p late h =
     let w = to_truncate least.Hour rounds v in
     let z = h.is_cell.0 in
@@ -322,7 +323,7 @@ shown_found laws least.Hour rounds leaps v cell p late h =
     let cap : ℤ = pos (82_800 * 10 ^ 18) in
     subst HasShown (sym h.is_cell.2)
     (day_shown laws leaps w h.label (capped cap z) (truncated_is least.Hour rounds v p) (truncated_late least.Hour rounds v p late) h.is_label
-        (capped_from cap z (omega (arith, ints)) from))
+    (capped_from cap z (omega (arith, ints)) from))
 shown_found laws least.Day rounds leaps v cell p late h =
     let w = to_truncate least.Day rounds v in
     subst HasShown (sym h.is_cell)
@@ -347,7 +348,7 @@ spelling_found laws (by_clock clock tick_forms.Ticks) v (at_tick (At k)) is p la
 pub each_has_answer : AreKnown → EachHasAnswer
 each_has_answer laws route r target is p near = elim (each_has_outcome laws route r target is p near) [
   | inl f ↦
-    let s = spelling_found laws target f.value f.outcome is f.is f.late f.has in
-    inl (s.0, (f.outcome, f.prints, s.1))
+      let s = spelling_found laws target f.value f.outcome is f.is f.late f.has in
+      inl (s.0, (f.outcome, f.prints, s.1))
   | inr u ↦ inr u
 ]

@@ -64,11 +64,11 @@ low_units lo u a d l h =
     let p : 0 < d = omega arith in
     let k = at_le (10 ^ 18 * d) (units lo) (parted u a d) (lo *ℤ pos d) (u *ℤ pos d +ℤ pos a) (lit< tt) (parted-den u a d p) (units_at lo d) (parted_at u a d) h in
     by_lt_z u lo (λ (s : u <ℤ lo).
-        let m = le-mul_z (u +ℤ pos 1) lo d (omega (arith, ints, s)) in
-        let e = add-mul_z u (pos 1) (pos d) in
-        let f = one-mul_z (pos d) in
-        absurd (never (u *ℤ pos d) (lo *ℤ pos d) a d l k (rw (e, f) at m)))
-        (λ (s : lo ≤ℤ u). s)
+    let m = le-mul_z (u +ℤ pos 1) lo d (omega (arith, ints, s)) in
+    let e = add-mul_z u (pos 1) (pos d) in
+    let f = one-mul_z (pos d) in
+    absurd (never (u *ℤ pos d) (lo *ℤ pos d) a d l k (rw (e, f) at m)))
+    (λ (s : lo ≤ℤ u). s)
   where
     never : (x y : ℤ) (a d : ℕ) → a < d → y ≤ℤ (x +ℤ pos a) → (x +ℤ pos d) ≤ℤ y → ⊥
     never x y a d l h k = omega (arith, ints)
@@ -78,11 +78,11 @@ high_units hi u a d l h =
     let p : 0 < d = omega arith in
     let k = at_le (10 ^ 18 * d) (parted u a d) (units hi) (u *ℤ pos d +ℤ pos a) (hi *ℤ pos d) (parted-den u a d p) (lit< tt) (parted_at u a d) (units_at hi d) h in
     by_lt_z hi u (λ (s : hi <ℤ u).
-        let m = le-mul_z (hi +ℤ pos 1) u d (omega (arith, ints, s)) in
-        let e = add-mul_z hi (pos 1) (pos d) in
-        let f = one-mul_z (pos d) in
-        absurd (never (u *ℤ pos d) (hi *ℤ pos d) a d l k (rw (e, f) at m)))
-        (λ (s : u ≤ℤ hi). s)
+    let m = le-mul_z (hi +ℤ pos 1) u d (omega (arith, ints, s)) in
+    let e = add-mul_z hi (pos 1) (pos d) in
+    let f = one-mul_z (pos d) in
+    absurd (never (u *ℤ pos d) (hi *ℤ pos d) a d l k (rw (e, f) at m)))
+    (λ (s : u ≤ℤ hi). s)
   where
     never : (x y : ℤ) (a d : ℕ) → a < d → (x +ℤ pos a) ≤ℤ y → (y +ℤ pos d) ≤ℤ x → ⊥
     never x y a d l h k = omega (arith, ints)

@@ -21,4 +21,3 @@ pub record AreKnown : Type 0 where
   pub ticks_rise : TickRises
   pub tick_found : TickIsFound
   pub canonical : CanonicalIsOne
-

@@ -66,11 +66,7 @@ fn find_instant(
 }
 
 /// The instant of a label of a system.
-fn instant_of(
-    label: Label,
-    system: System,
-    leaps: Option<&LeapTable>,
-) -> Result<i128, TimeFault>
+fn instant_of(label: Label, system: System, leaps: Option<&LeapTable>) -> Result<i128, TimeFault>
     requires leaps { system ≡ Utc → IsSome leaps }
     requires good { IsGood (OfLabel label) }
     ensures has { IfOk result (IsInstant system (option_map (λ t. t.now) leaps.entry) (OfLabel label)) }

@@ -134,12 +134,7 @@ pub fn print_tick(
 }
 
 /// The tick of a time, with the times that have none. Two bounds of an exact value are one, and so have one tick.
-fn find_ticks(
-    route: &Route,
-    time: i128,
-    clock: &Clock,
-    form: TickForm,
-) -> Result<Ticks, TimeFault>
+fn find_ticks(route: &Route, time: i128, clock: &Clock, form: TickForm) -> Result<Ticks, TimeFault>
     requires range { IsSource time }
     ensures found { IfOk result (λ ticks. MayPrint route.now (units time) (by_clock clock.now form) (at_tick ticks)) }
     ensures within { IfOk result (IsWithin clock.now) }

@@ -20,7 +20,7 @@ returns-in-Err-clause-undecided c =
     let exact = λ (none : HasNoSineOnIt c.args.route.now). c.enclose-value.ensures.exact none in (
       refl,
       ticks_undecided c.one_tick.ensures.one c.args.route.now (units c.args.time) c.args.clock.now c.args.form value.lo value.hi c.in-Err.field-0 c.scale-scale.ensures.clock
-      (c.enclose-value.ensures.at_least (units c.args.time) (search rules) inside) (c.enclose-value.ensures.at_most (units c.args.time) (search rules) inside)
-      value.ordered c.enclose-value.ensures.narrow
-      (λ none. (exact none).0 ∙ ap (λ z. z +ℤ shift c.args.route.now) point ∙ sym (exact none).1) c.in-Err.ensures.gives,
+          (c.enclose-value.ensures.at_least (units c.args.time) (search rules) inside) (c.enclose-value.ensures.at_most (units c.args.time) (search rules) inside)
+          value.ordered c.enclose-value.ensures.narrow
+          (λ none. (exact none).0 ∙ ap (λ z. z +ℤ shift c.args.route.now) point ∙ sym (exact none).1) c.in-Err.ensures.gives,
     )
