@@ -1,14 +1,14 @@
 -- The bounds of a value along a route.
-use Rattle.std.proofs.Common.{◌≡◌, ◌≢◌, ◌⊎◌, inl, inr, ℕ, ◌*◌, ◌^◌, ◌<◌, ℤ, pos, ◌+ℤ◌, ◌*ℤ◌, neg_ℤ, ◌≤ℤ◌, ◌<ℤ◌, true, false, refl, arith, lit<, mul-pos, mul_comm}
+use Rattle.std.proofs.Common.{◌≡◌, ◌⊎◌, inl, inr, ◌*◌, ◌^◌, ◌<◌, ℤ, pos, ◌+ℤ◌, ◌*ℤ◌, ◌≤ℤ◌, ◌<ℤ◌, refl, arith, lit<, mul-pos, mul_comm}
 use Rattle.std.proofs.lemmas.Bool.{cases_Bool}
 use Rattle.std.proofs.lemmas.Int.{ints, by_lt_z}
-use Rattle.st_fraction.specs.Fraction.{Fraction, IsFraction, ◌≤ᶠ◌, ◌<ᶠ◌, over, whole, units, ◌+ᶠ◌, ◌-ᶠ◌}
+use Rattle.st_fraction.specs.Fraction.{Fraction, IsFraction, ◌≤ᶠ◌, whole, units, ◌+ᶠ◌, ◌-ᶠ◌}
 use Rattle.st_fraction.proofs.Linear.{at_factor, whole_at}
 use Rattle.st_fraction.proofs.Order.{le_f_trans, le_f_move_back}
 use Rattle.st_fraction.proofs.Scale.{IsAt, at_self, at_add, le_at}
 use Rattle.st_scales.specs.Laws.{RouteAgrees, RouteIsExact, RouteIsNear}
 use Rattle.st_scales.specs.Route.{crosses}
-use Rattle.st_routes.specs.Route.{IsAtLeast, IsAtMost, HasSineOnIt, HasNoSineOnIt, shift, shifted}
+use Rattle.st_routes.specs.Route.{IsAtLeast, IsAtMost, HasSineOnIt, HasNoSineOnIt, shifted}
 use Rattle.st_routes.specs.declared.route.Route.{Route}
 use Rattle.st_routes.specs.declared.route.Route.TheVariants.{Same, Scales}
 

@@ -1,5 +1,5 @@
 -- The refusals of a clock's times are those of a tick.
-use Rattle.std.proofs.Common.{◌≡◌, ℕ, Result, Ok, Err, refl, sym, ap, ◌∙◌}
+use Rattle.std.proofs.Common.{◌≡◌, ℕ, Result, Ok, Err, ap}
 use Rattle.st_clock.specs.Clock.{Clock}
 use Rattle.st_clock.specs.Time.{GivesTime}
 use Rattle.st_clock.specs.declared.point.Point.{Point}

@@ -1,7 +1,7 @@
 -- A time text gives one instant or refusal.
-use Rattle.std.proofs.Common.{◌≡◌, ◌⊎◌, inl, inr, ◌^◌, ℕ, ◌*◌, ℤ, pos, neg_ℤ, ◌+ℤ◌, ◌-ℤ◌, ◌*ℤ◌, ◌≤ℤ◌, ◌<ℤ◌, List, Option, None, Some, Result, Ok, Err, MatchResult, IfOk, refl, sym, ap, ◌∙◌, subst, arith, lit<}
+use Rattle.std.proofs.Common.{◌≡◌, ◌⊎◌, inl, inr, ℕ, ℤ, pos, ◌+ℤ◌, ◌*ℤ◌, ◌≤ℤ◌, ◌<ℤ◌, List, Option, None, Some, Result, Ok, Err, MatchResult, IfOk, refl, sym, ap, ◌∙◌, subst, arith, lit<}
 use Rattle.std.proofs.lemmas.Int.{ints, by_lt_z}
-use Rattle.st_fraction.specs.Fraction.{units, whole}
+use Rattle.st_fraction.specs.Fraction.{units}
 use Rattle.st_dates.specs.Label.{formal}
 use Rattle.st_dates.specs.Range.{IsInRange, LiesInRange}
 use Rattle.st_dates.specs.declared.label.Label.{Label}

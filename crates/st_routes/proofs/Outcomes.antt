@@ -1,10 +1,10 @@
 -- What may be printed for a source: one outcome, and some outcome unless it may be left undecided.
-use Rattle.std.proofs.Common.{◌≡◌, ◌≢◌, ◌⊎◌, inl, inr, ℕ, ◌+◌, ◌*◌, ◌^◌, ◌<◌, ◌≤◌, ℤ, pos, neg_ℤ, ◌+ℤ◌, ◌*ℤ◌, ◌≤ℤ◌, ◌<ℤ◌, Option, None, Some, refl, sym, ap, ◌∙◌, subst, arith, lit<, mul-pos}
+use Rattle.std.proofs.Common.{◌≡◌, ◌≢◌, ◌⊎◌, inl, inr, ℕ, ◌+◌, ◌^◌, ◌≤◌, ℤ, pos, neg_ℤ, ◌≤ℤ◌, ◌<ℤ◌, Option, None, Some, refl, sym, ap, subst, arith, lit<, mul-pos}
 use Rattle.std.proofs.lemmas.Int.{ints, by_lt_z}
 use Rattle.std.specs.Int.Signed.{le_z_yes}
-use Rattle.st_fraction.specs.Fraction.{Fraction, IsFraction, ◌≤ᶠ◌, ◌<ᶠ◌, over, whole, units, ◌+ᶠ◌, ◌-ᶠ◌}
+use Rattle.st_fraction.specs.Fraction.{Fraction, IsFraction, ◌≤ᶠ◌, over, whole, units, ◌+ᶠ◌, ◌-ᶠ◌}
 use Rattle.st_fraction.proofs.Order.{le_f_trans}
-use Rattle.st_fraction.proofs.Placed.{Placed, plus, minus, number, lowered, raised, placed}
+use Rattle.st_fraction.proofs.Placed.{plus, minus, number, lowered, raised, placed}
 use Rattle.st_leaps.specs.Label.{AreCounts}
 use Rattle.st_leaps.specs.declared.table.LeapTable.{LeapTable}
 use Rattle.st_picture.specs.Cell.{◌≤ᶜ◌, days_of, leaps_for}
@@ -16,7 +16,7 @@ use Rattle.st_clock.specs.declared.ticks.Ticks.TheVariants.{Before, At, After}
 use Rattle.st_routes.specs.LawSteps.{AreKnown}
 use Rattle.st_routes.specs.Laws.{IsTarget, OneOutcome, OutcomeIsExact}
 use Rattle.st_routes.specs.Outcome.{Outcome, Target, in_cell, at_tick, by_picture, by_clock, IsOutcome, MayPrint, MayBeUndecided}
-use Rattle.st_routes.specs.Route.{IsAtLeast, IsAtMost, HasSineOnIt, HasNoSineOnIt, IsNearby, shifted}
+use Rattle.st_routes.specs.Route.{HasSineOnIt, HasNoSineOnIt, IsNearby, shifted}
 use Rattle.st_routes.specs.declared.route.Route.{Route}
 use Rattle.st_routes.specs.declared.route.Route.TheVariants.{Same, Scales}
 use Rattle.st_routes.proofs.Bounds.{agrees, exact_bounds, near_below, shifted_is, sine_or_none}

@@ -1,7 +1,7 @@
 -- What the bounds that the code finds print.
-use Rattle.std.proofs.Common.{◌≡◌, ◌≢◌, ◌⊎◌, inl, inr, ℕ, ◌*◌, ◌^◌, ◌<◌, ℤ, pos, ◌+ℤ◌, ◌-ℤ◌, ◌≤ℤ◌, List, Option, Result, Ok, Err, refl, sym, ap, ◌∙◌, subst, arith, lit<}
+use Rattle.std.proofs.Common.{◌≡◌, ◌≢◌, inl, inr, ℕ, ◌<◌, ℤ, pos, ◌+ℤ◌, ◌-ℤ◌, ◌≤ℤ◌, List, Option, Ok, Err, ap, subst, arith, lit<}
 use Rattle.std.proofs.lemmas.Int.{ints}
-use Rattle.st_fraction.specs.Fraction.{Fraction, IsFraction, ◌≤ᶠ◌, ◌<ᶠ◌, over, units, ◌+ᶠ◌}
+use Rattle.st_fraction.specs.Fraction.{Fraction, IsFraction, units}
 use Rattle.st_leaps.specs.declared.table.LeapTable.{LeapTable}
 use Rattle.st_picture.specs.Cell.{IsCellOf, IsUnit, days_of, leaps_for}
 use Rattle.st_picture.specs.Laws.{CellOfFloor}

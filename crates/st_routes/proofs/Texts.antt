@@ -1,5 +1,5 @@
 -- What tells an outcome: there is an answer, and one alone.
-use Rattle.std.proofs.Common.{◌≡◌, ◌≢◌, ◌⊎◌, inl, inr, ℕ, ◌+◌, ◌-◌, ◌*◌, ◌/◌, ◌%◌, ◌^◌, ◌<◌, ◌≤◌, nat_le, ℤ, pos, negsuc, neg_ℤ, ◌+ℤ◌, ◌*ℤ◌, ◌≤ℤ◌, ◌<ℤ◌, int_le, Bool, true, false, List, Option, Result, Ok, Err, unsigned_abs, if◌then◌else◌, refl, sym, ap, ◌∙◌, subst, arith, lit<, mul-pos}
+use Rattle.std.proofs.Common.{◌≡◌, ◌⊎◌, inl, inr, ℕ, ◌+◌, ◌-◌, ◌*◌, ◌/◌, ◌%◌, ◌^◌, ◌<◌, ◌≤◌, nat_le, ℤ, pos, negsuc, neg_ℤ, ◌+ℤ◌, ◌*ℤ◌, ◌≤ℤ◌, ◌<ℤ◌, int_le, Bool, true, false, List, Option, Result, Ok, Err, unsigned_abs, refl, sym, ap, ◌∙◌, subst, arith, lit<, mul-pos}
 use Rattle.std.proofs.Math.Nat.{div-mul-le_self, lt-div-mul-add, one-le-pow}
 use Rattle.std.proofs.lemmas.Bool.{cases_Bool}
 use Rattle.std.proofs.lemmas.Bool.Decides.{nat_tests}
@@ -7,29 +7,27 @@ use Rattle.std.proofs.lemmas.Int.{ints, by_lt_z}
 use Rattle.std.specs.Int.{int_rem_euclid}
 use Rattle.std.specs.List.{flat_map}
 use Rattle.st_text.specs.Bytes.{decimal_digits}
-use Rattle.st_fraction.specs.Fraction.{Fraction, IsFraction, ◌≤ᶠ◌, ◌<ᶠ◌, over, whole, units, ◌+ᶠ◌}
+use Rattle.st_fraction.specs.Fraction.{Fraction, IsFraction, ◌≤ᶠ◌, whole, units, ◌+ᶠ◌}
 use Rattle.st_fraction.proofs.Ring.{le-mul_z}
-use Rattle.st_fraction.proofs.Order.{le_f_trans, le_f_refl, le_f_add}
+use Rattle.st_fraction.proofs.Order.{le_f_trans, le_f_add}
 use Rattle.st_fraction.proofs.Strict.{le_lt_f}
-use Rattle.st_dates.specs.Civil.{IsCivil, day_of_year, weekday_of}
+use Rattle.st_dates.specs.Civil.{IsCivil, day_of_year}
 use Rattle.st_dates.specs.declared.civil.Civil.{Civil}
 use Rattle.st_leaps.specs.Label.{Stamp, IsLabelOf}
 use Rattle.st_leaps.specs.declared.table.LeapTable.{LeapTable}
-use Rattle.st_picture.specs.Cell.{IsCell, IsCellOf, IsCellOfLabel, IsOfMonth, IsTruncated, capped, days_of, half_unit, leaps_for, to_truncate}
-use Rattle.st_picture.specs.Picture.{Picture}
-use Rattle.st_picture.specs.Text.{IsTextOf, IsTimeOfDay, Shows, shown_text}
+use Rattle.st_picture.specs.Cell.{IsCell, IsOfMonth, IsTruncated, capped, days_of, half_unit, leaps_for, to_truncate}
+use Rattle.st_picture.specs.Text.{Shows, shown_text}
 use Rattle.st_picture.specs.declared.cell.Cell.{Cell}
 use Rattle.st_picture.specs.declared.cell.Cell.TheVariants as cells
 use Rattle.st_picture.specs.declared.unit.LeastUnit.{LeastUnit}
 use Rattle.st_picture.specs.declared.unit.LeastUnit.TheVariants as least
 use Rattle.st_ticks.specs.TickMachine.{canonical}
 use Rattle.st_clock.specs.Clock.{Clock, IsClock}
-use Rattle.st_clock.specs.declared.ticks.Ticks.{Ticks}
 use Rattle.st_clock.specs.declared.ticks.Ticks.TheVariants.{Before, At, After}
 use Rattle.st_routes.specs.LawSteps.{AreKnown}
 use Rattle.st_routes.specs.Laws.{IsTarget, OneAnswer, ExactIsOne, EachHasAnswer}
-use Rattle.st_routes.specs.Outcome.{Outcome, Target, in_cell, at_tick, by_picture, by_clock, IsOutcome, IsTickText, MayPrint, MayBeUndecided, Prints, RouteGives, Spells}
-use Rattle.st_routes.specs.Route.{HasSineOnIt, HasNoSineOnIt}
+use Rattle.st_routes.specs.Outcome.{Outcome, Target, in_cell, at_tick, by_picture, by_clock, IsOutcome, IsTickText, MayBeUndecided, Prints, RouteGives, Spells}
+use Rattle.st_routes.specs.Route.{HasNoSineOnIt}
 use Rattle.st_routes.specs.declared.fault.TimeFault.{TimeFault}
 use Rattle.st_routes.specs.declared.fault.TimeFault.TheVariants as faults
 use Rattle.st_routes.specs.declared.route.Route.{Route}

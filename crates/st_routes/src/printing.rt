@@ -64,6 +64,7 @@ fn print_exact(
     requires leaps { picture.now.system ≡ Utc → IsSome leaps }
     ensures { RouteGives route.now (value_of time) (by_picture picture.now (option_map (λ t. t.now) leaps.entry)) result }
 {
+    // By these laws the value is the shifted time, and has the cell of its lower unit.
     one_value();
     cell_of_floor();
     let value = route.enclose(Enc::point(time.units));

@@ -70,7 +70,7 @@ fn read_string(text: &[u8], face: &Face) -> Result<u64, ClockTextFault>
     ensures only { (answer : Result ℕ TextFault) → ReadsClock face.now text.now answer → result ≡ answer }
     ensures within { IfOk result (λ tick. tick ≤ faces.total face.now) }
 {
-    // What is true of each face comes with its total.
+    // What is true of each face comes with its total, and by the law a string's tick is one of the clock.
     let _total = face.total();
     reading();
     face.read_clock(text)

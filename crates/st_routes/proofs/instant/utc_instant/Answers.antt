@@ -1,4 +1,3 @@
-use Rattle.std.proofs.Common.{◌≡◌, Result, Ok, Err, IfOk, ℤ}
 use Rattle.st_leaps.specs.OfTable.{count_of}
 use Rattle.st_routes.proofs.Instants.{source_of_answer}
 use Rattle.st_routes.proofs.instant.utc_instant.Goals as goal

@@ -1,4 +1,4 @@
-use Rattle.std.proofs.Common.{◌≡◌, ◌+ℤ◌, refl, rules, ap, sym, subst, ◌∙◌}
+use Rattle.std.proofs.Common.{◌≡◌, ◌+ℤ◌, refl, rules, ap, sym, ◌∙◌}
 use Rattle.st_fraction.specs.Fraction.{LiesWithin, units}
 use Rattle.st_routes.specs.Route.{HasNoSineOnIt, shift}
 use Rattle.st_routes.proofs.Printed.{ticks_print, ticks_undecided}

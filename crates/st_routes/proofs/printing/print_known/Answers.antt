@@ -1,7 +1,5 @@
-use Rattle.std.proofs.Common.{◌≡◌, ◌<◌, arith, lit<, mul-pos, rules, option_map, Err, subst}
-use Rattle.st_fraction.specs.Fraction.{IsFraction}
+use Rattle.std.proofs.Common.{option_map, Err, subst}
 use Rattle.st_clock.specs.Time.{value_of}
-use Rattle.st_clock.specs.declared.point.Point.{Point}
 use Rattle.st_picture.specs.Printing.{PrintsIn}
 use Rattle.st_routes.proofs.Printed.{known_prints, known_differs}
 use Rattle.st_routes.proofs.Values.{value_is}
