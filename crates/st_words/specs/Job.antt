@@ -4,7 +4,7 @@ use Rattle.st_dates.specs.declared.system.System.{System}
 use Rattle.st_dates.specs.declared.system.System.TheVariants.{Utc, Tai, Tt, Tdb, Sclk}
 use Rattle.st_picture.specs.Picture.{Picture}
 use Rattle.st_picture.specs.Reading.{ReadsPicture, IsSecondsAlone}
-use Rattle.st_words.specs.Kinds.{is_type_of, kind_of, from_kind, to_type}
+use Rattle.st_words.specs.Kinds.{is_type_of, from_kind, to_type}
 use Rattle.st_words.specs.Rules.{IsPictured}
 use Rattle.st_words.specs.Values.{IsName}
 use Rattle.st_words.specs.declared.job.FromKind.{FromKind}
@@ -40,14 +40,14 @@ pub record IsAskedFor (o : Options) (job : Job) : Type 0 where
   pub work : IsWork o job.work
   pub back : job.back ≡ o.back
 
--- times of a source of the system are written so
-abbrev pub IsSource : System → FromKind → Type 0
-IsSource system form = (given : Option TimeType) × IsTypeGiven system given × (form ≡ from_kind system given)
-
 -- no type is given, or one of the system
 abbrev pub IsTypeGiven : System → Option TimeType → Type 0
 IsTypeGiven system None = ⊤
 IsTypeGiven system (Some kind) = is_type_of system kind ≡ true
+
+-- times of a source of the system are written so
+abbrev pub IsSource : System → FromKind → Type 0
+IsSource system form = (given : Option TimeType) × IsTypeGiven system given × (form ≡ from_kind system given)
 
 -- times of a target of the system are written so; its picture was read for it
 abbrev pub IsTarget : System → ToKind → Type 0

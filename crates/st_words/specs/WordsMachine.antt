@@ -22,7 +22,7 @@ use Rattle.st_words.specs.declared.time_type.TimeType.TheVariants as types
 abbrev pub all_options : List Opt
 all_options = Setup ∷ From ∷ FromType ∷ To ∷ ToType ∷ Format ∷ Time ∷ Batch ∷ Sample ∷ Sc ∷ Back ∷ []
 
-abbrev pub option_of : List ℕ → Option Opt
+unfoldable pub option_of : List ℕ → Option Opt
 option_of word = find (λ opt. str_eq_ignore_ascii_case word (word_of opt)) all_options
 
 abbrev pub is_option : List ℕ → Bool

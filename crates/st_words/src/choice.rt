@@ -86,6 +86,7 @@ fn at_least(wanted: usize, plain: usize) -> Option<usize>
 }
 
 /// How many words stand before the first that names an option.
+#[tactic(auto, using(crate::proofs::Lists::prefix_of_map))]
 fn plain_count(words: &[String]) -> usize
     ensures count { result ≡ prefix_len machine.is_plain (map string_bytes words.now) }
     ensures within { result ≤ length words.now }
@@ -127,11 +128,12 @@ fn read_value(
 fn joined(alloc: Global, words: &[String]) -> Result<KText, OutOfMemory>
     ensures { IfOk result (λ text. text ≡ spec.joined (map string_bytes words.now)) }
 {
-    let mut text = KText::new(alloc);
-    for (i, word) in words.iter().enumerate() {
-        if i > 0 {
-            text.push(b' ')?;
-        }
+    let [first, more @ ..] = words else {
+        return Ok(KText::new(alloc));
+    };
+    let mut text = KText::from_slice(alloc, first.as_bytes())?;
+    for word in more {
+        text.push(b' ')?;
         text.extend_from_slice(word.as_bytes())?;
     }
     Ok(text)

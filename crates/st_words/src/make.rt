@@ -72,11 +72,11 @@ fn read_picture(
     default: &[u8],
     system: System,
 ) -> Result<ToKind, WordFault>
-    ensures ok { IfOk result (λ shape. (picture : ThePicture) × (shape ≡ Pictured picture)
-        × ReadsPicture system (unwrap_or options.now.format default.now) (Ok picture)) }
-    ensures err { IfErr result (λ fault. fault ≢ faults.OutOfMemory → (refusal : TheFault)
-        × ReadsPicture system (unwrap_or options.now.format default.now) (Err refusal)
-        × (refusal ≢ PictureFault.OutOfMemory) × (fault ≡ faults.BadPicture refusal)) }
+    requires system { options.now.to ≡ Some system }
+    requires default { kinds.default_picture (kinds.to_type system options.now.to_type) ≡ Some default.now }
+    ensures ok { IfOk result (IsShape options.now system) }
+    ensures err { IfErr result (λ fault. fault ≢ faults.OutOfMemory
+        → (refusal : TheFault) × RefusesPicture options.now refusal × (fault ≡ faults.BadPicture refusal)) }
 {
     let text = match &options.format {
         Some(text) => text.as_slice(),

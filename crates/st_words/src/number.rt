@@ -14,6 +14,7 @@ const TOO_LARGE: u128 = 1 << 64;
 const MOST_ID: u64 = 999_999_999;
 
 /// The number that digits spell, where it lies within these bounds.
+#[tactic(auto, unfolding(crate::specs::WordsMachine::number_within))]
 pub fn number_within(text: &[u8], low: u64, high: u64) -> Option<u64>
     ensures { result ≡ machine.number_within low high text.now }
 {

@@ -67,6 +67,7 @@ impl Opt {
 }
 
 /// The option that a word names, in any letter case.
+#[tactic(auto, unfolding(crate::specs::WordsMachine::option_of))]
 pub fn option_of(word: &[u8]) -> Option<Opt>
     ensures { result ≡ machine.option_of word.now }
 {

@@ -6,6 +6,7 @@ ghost use Rattle.st_words.specs.WordsMachine as machine;
 use st_dates::System;
 
 /// The system that a word names, in any letter case.
+#[tactic(auto, unfolding(crate::specs::WordsMachine::system_of))]
 pub fn system_of(word: &[u8]) -> Option<System>
     ensures { result ≡ machine.system_of word.now }
 {

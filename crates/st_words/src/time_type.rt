@@ -20,6 +20,7 @@ pub enum TimeType {
 }
 
 /// The type that a word names, in any letter case.
+#[tactic(auto, unfolding(crate::specs::WordsMachine::type_of))]
 pub fn type_of(word: &[u8]) -> Option<TimeType>
     ensures { result ≡ machine.type_of word.now }
 {
