@@ -1,1 +1,5 @@
 pub mod Lists
+pub mod NameLaws
+pub mod ValueLaws
+pub mod SetupLaws
+pub mod CutLaws

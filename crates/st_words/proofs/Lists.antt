@@ -1,29 +1,36 @@
 -- Lists of words and of values, one more at a time.
-use Rattle.std.proofs.Common.{◌≡◌, ℕ, ◌+◌, ◌<◌, Bool, true, false, cond, Some, List, [], ◌∷◌, ◌++◌, length, map, take, get_or, refl, sym, ap, ◌∙◌, arith, append_assoc}
+use Rattle.std.proofs.Common.{◌≡◌, ℕ, ◌+◌, ◌<◌, ◌≤◌, Bool, true, false, cond, Some, List, [], ◌∷◌, ◌++◌, length, map, take, drop, get_or, refl, sym, ap, ◌∙◌, arith, append_assoc}
 use Rattle.std.proofs.lemmas.Bool.{cases_Bool}
 use Rattle.std.proofs.lemmas.Grind.{flat_map-append}
-use Rattle.std.proofs.lemmas.List.{take_more}
-use Rattle.std.proofs.lemmas.Option.{get_or_from_slice_get}
+use Rattle.std.proofs.lemmas.List.{append-nil, take_more, take-map}
+use Rattle.std.proofs.lemmas.List.Folds.{flat_map-map}
+use Rattle.std.proofs.lemmas.Option.{get_or_from_slice_get, same_Some}
 use Rattle.std.specs.List.{flat_map, prefix_len, slice_get}
 use Rattle.st_decimal.specs.declared.number.Dec.{Dec}
 use Rattle.st_kernel_text.specs.declared.value.Value.{Value}
 use Rattle.st_kernel_text.specs.declared.value.Value.TheVariants.{Number, Text}
+use Rattle.st_words.specs.Values.{joined}
 use Rattle.st_words.specs.Setup.{texts_in}
 
-prefix_step : {X Y : Type 0} (b : Bool) (m n : ℕ) → m ≡ n → cond b (1 + m) 0 ≡ cond b (1 + n) 0
+prefix_step : (b : Bool) (m n : ℕ) → m ≡ n → cond b (1 + m) 0 ≡ cond b (1 + n) 0
 prefix_step b m n e = ap (λ (k : ℕ). cond b (1 + k) 0) e
 
 pub prefix_of_map : {X Y : Type 0} (p : Y → Bool) (f : X → Y) (xs : List X) → prefix_len p (map f xs) ≡ prefix_len (λ x. p (f x)) xs
 prefix_of_map p f [] = refl
-prefix_of_map {X = X} {Y = Y} p f (x ∷ xs) = prefix_step {X = X} {Y = Y} (p (f x)) _ _ (prefix_of_map p f xs)
+prefix_of_map p f (x ∷ xs) = prefix_step (p (f x)) (prefix_len p (map f xs)) (prefix_len (λ x. p (f x)) xs) (prefix_of_map p f xs)
+
+flat_map_one : {X A : Type 0} (f : X → List A) (xs : List X) (i : ℕ) (x : X) → i < length xs
+    → flat_map f (take (i + 1) xs) ≡ flat_map f (take i xs) ++ f (get_or xs i x)
+flat_map_one {A = A} f xs i x l =
+    ap (flat_map f) (take_more xs i x l) ∙ flat_map-append f (take i xs) (get_or xs i x ∷ [])
+    ∙ ap (λ (t : List A). flat_map f (take i xs) ++ t) (append-nil (f (get_or xs i x)))
 
 -- one more piece behind those before
 pub pieces_more : {X A : Type 0} (f : X → List A) (text : List A) (xs : List X) (i : ℕ) (x : X) → i < length xs
     → (text ++ flat_map f (take i xs)) ++ f (get_or xs i x) ≡ text ++ flat_map f (take (i + 1) xs)
-pieces_more f text xs i x l =
-    let more : flat_map f (take (i + 1) xs) ≡ flat_map f (take i xs) ++ (f (get_or xs i x) ++ []) =
-        ap (flat_map f) (take_more xs i x l) ∙ flat_map-append f (take i xs) (get_or xs i x ∷ []) in
-    grind (arith, more, append_assoc)
+pieces_more {X = X} {A = A} f text xs i x l =
+    append_assoc text (flat_map f (take i xs)) (f (get_or xs i x))
+    ∙ ap (λ (t : List A). text ++ t) (sym (flat_map_one f xs i x l))
 
 texts_in_append : (a b : List Value) → texts_in (a ++ b) ≡ texts_in a ++ texts_in b
 texts_in_append [] b = refl
@@ -40,3 +47,21 @@ texts_more values i v before names l is e =
     let more : texts_in (take (i + 1) values) ≡ texts_in (take i values) ++ texts_in (v ∷ []) =
         ap texts_in (one_more values i v l is) ∙ texts_in_append (take i values) (v ∷ []) in
     grind (arith, more, e, append_assoc)
+
+pub take_of_map : {X Y : Type 0} (f : X → Y) (n : ℕ) (xs : List X) → map f (take n xs) ≡ take n (map f xs)
+take_of_map f n xs = sym (take-map f n xs)
+
+-- words in a row, each but the first with a blank before it
+pub joined_is : {X : Type 0} (f : X → List ℕ) (xs : List X) (x : X) (first text : List ℕ) → 1 ≤ length xs → x ≡ get_or xs 0 x → first ≡ f x
+    → text ≡ first ++ flat_map (λ w. 32 ∷ f w) (drop 1 xs) → text ≡ joined (map f xs)
+joined_is f [] x first text l is e t = absurd (omega arith)
+joined_is {X = X} f (y ∷ xs) x first text l is e t =
+    let head : first ≡ f y = e ∙ ap f is in
+    let tail : flat_map (λ w. 32 ∷ w) (map f xs) ≡ flat_map (λ (z : X). 32 ∷ f z) xs = flat_map-map (λ w. 32 ∷ w) f xs in
+    t ∙ (λ i. head i ++ sym tail i)
+
+-- a list of one item
+pub one_value : {X : Type 0} (xs : List X) (x : X) → length xs ≡ 1 → slice_get xs 0 ≡ Some x → xs ≡ x ∷ []
+one_value [] x l e = absurd (omega arith)
+one_value {X = X} (y ∷ []) x l e = ap (λ (z : X). z ∷ []) (same_Some y x e)
+one_value (y ∷ z ∷ more) x l e = absurd (omega arith)

@@ -8,5 +8,6 @@ pub mod Reading
 pub mod Setup
 pub mod Text
 pub mod Laws
+pub mod JobSteps
 pub mod WordsMachine
 pub mod RulesMachine

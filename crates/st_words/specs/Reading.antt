@@ -1,9 +1,8 @@
 -- What the words of the program give: a job, or the first fault.
 use Rattle.std.specs.Prelude.{◌≡◌, ℕ, ◌⊎◌, List, [], Result, Ok, Err}
-use Rattle.std.specs.List.{All}
 use Rattle.st_words.specs.Cut.{Standing, start_of, Reads, Stops}
 use Rattle.st_words.specs.Job.{IsAskedFor}
-use Rattle.st_words.specs.Rules.{Breaks, rules, FirstBroken, Names}
+use Rattle.st_words.specs.Rules.{rules, AreKept, FirstBroken, Names}
 use Rattle.st_words.specs.declared.choice.Choice.{Choice}
 use Rattle.st_words.specs.declared.fault.WordFault.{WordFault}
 use Rattle.st_words.specs.declared.job.Job.{Job}
@@ -27,7 +26,7 @@ pub record HasFault (words : List (List ℕ)) (fault : WordFault) : Type 0 where
 
 -- what options give: a job where they keep all rules, or the fault of the first rule that they break
 abbrev pub OptionsGive : Options → Result Job WordFault → Type 0
-OptionsGive o (Ok job) = All (λ rule. Breaks o rule → ⊥) rules × IsAskedFor o job
+OptionsGive o (Ok job) = AreKept o rules × IsAskedFor o job
 OptionsGive o (Err fault) = (rule : Rule) × FirstBroken o rules rule × Names o rule fault
 
 -- What the words give: a job, a fault at a place, or the fault of a rule on their options together.

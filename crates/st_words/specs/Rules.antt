@@ -1,6 +1,6 @@
 -- The rules on the options together, in their order, and the faults that name them. They are this project's own; that types
 -- belong to systems is after the CHRONOS User's Guide.
-use Rattle.std.specs.Prelude.{◌≡◌, ◌≢◌, ℕ, ◌⊎◌, true, false, List, [], ◌∷◌, Option, Some, None, Ok, Err, unwrap_or}
+use Rattle.std.specs.Prelude.{◌≡◌, ◌≢◌, ℕ, ◌⊎◌, true, false, List, [], ◌∷◌, Option, Some, None, Ok, Err, unwrap_or, ⊤}
 use Rattle.st_dates.specs.declared.system.System.{System}
 use Rattle.st_dates.specs.declared.system.System.TheVariants.{Tdb, Sclk}
 use Rattle.st_picture.specs.Picture.{Picture}
@@ -68,6 +68,11 @@ abbrev pub rules : List Rule
 rules =
     SetupIsThere ∷ FromIsThere ∷ ToIsThere ∷ WorkIsThere ∷ FromTypeFits ∷ ToTypeFits ∷ TimeOrBatch ∷ TimeOrSample ∷ BatchOrSample
     ∷ FormatOfNoClock ∷ FormatOrSeconds ∷ PictureReads ∷ BackToClock ∷ BackFromEt ∷ BackFromSeconds ∷ []
+
+-- no rule of the list is broken
+abbrev pub AreKept : Options → List Rule → Type 0
+AreKept o [] = ⊤
+AreKept o (first ∷ more) = (Breaks o first → ⊥) × AreKept o more
 
 -- a rule of the list is broken, and none before it
 abbrev pub FirstBroken : Options → List Rule → Rule → Type 0

@@ -4,7 +4,10 @@ use Rattle.st_dates.specs.declared.system.System.{System}
 use Rattle.st_dates.specs.declared.system.System.TheVariants.{Utc, Tai, Tt, Tdb, Sclk}
 use Rattle.st_words.specs.Kinds.{is_type_of}
 use Rattle.st_words.specs.Rules.{fault_of}
+use Rattle.st_picture.specs.declared.fault.PictureFault.{PictureFault}
+use Rattle.st_picture.specs.declared.fault.PictureFault.TheVariants.{OutOfMemory as NoMemory}
 use Rattle.st_words.specs.declared.fault.WordFault.{WordFault}
+use Rattle.st_words.specs.declared.fault.WordFault.TheVariants.{BadPicture, OutOfMemory}
 use Rattle.st_words.specs.declared.job.Work.{Work}
 use Rattle.st_words.specs.declared.job.Work.TheVariants.{Time, Batch, Sample}
 use Rattle.st_words.specs.declared.options.Options.{Options}
@@ -59,3 +62,8 @@ abbrev pub work_of : Option (List ℕ) → Option (ℕ × ℕ) → Work
 work_of (Some text) sample = Time text
 work_of None (Some p) = Sample p.0 p.1
 work_of None None = Batch
+
+-- the fault of words whose picture is refused
+abbrev pub word_fault : PictureFault → WordFault
+word_fault NoMemory = OutOfMemory
+word_fault fault = BadPicture fault

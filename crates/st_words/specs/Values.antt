@@ -1,7 +1,7 @@
 -- The values of options: which words they are, and what they mean. Source: the CHRONOS User's Guide, for the names of systems
 -- and types, and for words that follow an option up to the next; the ranges are this project's own.
 use Rattle.std.specs.Prelude.{◌≡◌, ℕ, ◌≤◌, ◌^◌, ◌-◌, ◌⊎◌, List, [], ◌∷◌, ◌++◌, length, codes, IsTrue, ⊤}
-use Rattle.std.specs.List.{All, join_by}
+use Rattle.std.specs.List.{join_by}
 use Rattle.st_text.specs.Ascii.{dash, space}
 use Rattle.st_text.specs.Bytes.{are_digits, number_of}
 use Rattle.st_dates.specs.Names.{AreSameLetters}
@@ -108,9 +108,14 @@ Ends Format rest = AtOption rest
 Ends Time rest = AtOption rest
 Ends opt rest = ⊤
 
+-- none of the words names an option
+abbrev pub ArePlain : List (List ℕ) → Type 0
+ArePlain [] = ⊤
+ArePlain (word ∷ more) = IsPlain word × ArePlain more
+
 -- the words that stand before a rest are a value of the option; no word of a value names an option
 pub record IsValue (opt : Opt) (values rest : List (List ℕ)) : Type 0 where
-  pub plain : All IsPlain values
+  pub plain : ArePlain values
   pub count : HasCount opt (length values)
   pub ends : Ends opt rest
 

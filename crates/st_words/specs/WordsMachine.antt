@@ -74,6 +74,7 @@ meaning_of opt word = None
 -- the fault of a word that means nothing
 abbrev pub bad_of : Opt → ℕ → WordFault
 bad_of Sc place = BadNumber place
+bad_of Sample place = BadNumber place
 bad_of opt place = BadValue place
 
 abbrev pub ok_or : {A : Type 0} → Option A → WordFault → Result A WordFault

@@ -1,7 +1,7 @@
 //! One option with its value.
 
-ghost use Rattle.std.specs.Prelude.{◌≡◌, ◌≢◌, ◌≤◌, ◌<◌, ◌+◌, ◌^◌, Ok, Err, IfOk, IfErr, IfSome, map, string_bytes, length};
-ghost use Rattle.std.specs.List.{prefix_len};
+ghost use Rattle.std.specs.Prelude.{◌≡◌, ◌≢◌, ◌≤◌, ◌<◌, ◌+◌, ◌^◌, Ok, Err, IfOk, IfErr, IfSome, OnOk, ◌∷◌, ◌++◌, not, map, string_bytes, length};
+ghost use Rattle.std.specs.List.{prefix_len, flat_map};
 ghost use Rattle.st_words.specs.Values as spec;
 ghost use Rattle.st_words.specs.WordsMachine as machine;
 ghost use Rattle.st_words.specs.declared.fault.WordFault.TheVariants as faults;
@@ -39,6 +39,7 @@ pub enum Choice {
 
 /// The option whose word stands at a place, with the value that stands behind it, and how many words
 /// that value has.
+#[tactic(auto, using(crate::proofs::Lists::take_of_map))]
 pub fn read_choice(
     alloc: Global,
     opt: Opt,
@@ -58,6 +59,7 @@ pub fn read_choice(
 }
 
 /// How many words the value of an option has that stands before these words; none where it has too few.
+#[tactic(auto, using(crate::proofs::Lists::prefix_of_map))]
 fn value_count(opt: Opt, more: &[String]) -> Option<usize>
     ensures count { result ≡ machine.value_count opt (map string_bytes more.now) }
     ensures within { IfSome result (λ count. count ≤ length more.now) }
@@ -86,9 +88,8 @@ fn at_least(wanted: usize, plain: usize) -> Option<usize>
 }
 
 /// How many words stand before the first that names an option.
-#[tactic(auto, using(crate::proofs::Lists::prefix_of_map))]
 fn plain_count(words: &[String]) -> usize
-    ensures count { result ≡ prefix_len machine.is_plain (map string_bytes words.now) }
+    ensures count { result ≡ prefix_len (λ word. not (machine.is_option (string_bytes word))) words.now }
     ensures within { result ≤ length words.now }
 {
     words
@@ -128,15 +129,25 @@ fn read_value(
 fn joined(alloc: Global, words: &[String]) -> Result<KText, OutOfMemory>
     ensures { IfOk result (λ text. text ≡ spec.joined (map string_bytes words.now)) }
 {
-    let [first, more @ ..] = words else {
-        return Ok(KText::new(alloc));
-    };
-    let mut text = KText::from_slice(alloc, first.as_bytes())?;
-    for word in more {
+    match words {
+        [] => Ok(KText::new(alloc)),
+        [first, more @ ..] => {
+            let mut text = KText::from_slice(alloc, first.as_bytes())?;
+            add_words(&mut text, more)?;
+            Ok(text)
+        }
+    }
+}
+
+/// Appends some words, each with a blank before it.
+fn add_words(text: &mut KText, words: &[String]) -> Result<(), OutOfMemory>
+    ensures { OnOk result (text.new ≡ text.old ++ flat_map (λ word. 32 ∷ string_bytes word) words.now) }
+{
+    for word in words {
         text.push(b' ')?;
         text.extend_from_slice(word.as_bytes())?;
     }
-    Ok(text)
+    Ok(())
 }
 
 /// The lines and the seed of a sample.
@@ -164,8 +175,17 @@ fn read_single(alloc: Global, opt: Opt, place: usize, word: &[u8]) -> Result<Cho
 {
     match single(alloc, opt, word)? {
         Some(choice) => Ok(choice),
-        None if opt == Opt::Sc => Err(WordFault::BadNumber(place + 1)),
-        None => Err(WordFault::BadValue(place + 1)),
+        None => Err(bad(opt, place + 1)),
+    }
+}
+
+/// The fault of a word that means nothing as the value of an option.
+fn bad(opt: Opt, place: usize) -> WordFault
+    ensures { result ≡ machine.bad_of opt place }
+{
+    match opt {
+        Opt::Sc | Opt::Sample => WordFault::BadNumber(place),
+        _ => WordFault::BadValue(place),
     }
 }
 

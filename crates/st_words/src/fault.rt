@@ -54,6 +54,19 @@ impl From<OutOfMemory> for WordFault {
     }
 }
 
+impl From<PictureFault> for WordFault {
+    ghost use Rattle.st_words.specs.RulesMachine.{word_fault};
+
+    ghost from_gives = { λ refusal fault. fault ≡ word_fault refusal };
+
+    fn from(refusal: PictureFault) -> Self {
+        match refusal {
+            PictureFault::OutOfMemory => WordFault::OutOfMemory,
+            _ => WordFault::BadPicture(refusal),
+        }
+    }
+}
+
 /// Why a setup names no files.
 #[derive(Clone, Copy, Debug, PartialEq, Eq, Error)]
 pub enum SetupFault {

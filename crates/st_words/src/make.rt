@@ -7,6 +7,7 @@ ghost use Rattle.st_picture.specs.Reading.{ReadsPicture, IsSecondsAlone};
 ghost use Rattle.st_picture.specs.declared.fault.PictureFault.{PictureFault as TheFault};
 ghost use Rattle.st_words.specs.Cut.{has};
 ghost use Rattle.st_words.specs.Job.{IsShape, IsWork};
+ghost use Rattle.st_words.specs.JobSteps.{Keeps};
 ghost use Rattle.st_words.specs.Kinds as kinds;
 ghost use Rattle.st_words.specs.Reading.{OptionsGive};
 ghost use Rattle.st_words.specs.Rules.{RefusesPicture};
@@ -24,7 +25,7 @@ use crate::time_type::TimeType;
 use st_dates::System;
 use st_decimal::KText;
 use st_forms::Form;
-use st_picture::{Picture, PictureFault};
+use st_picture::Picture;
 use std::alloc::Global;
 
 /// The job that options ask for.
@@ -36,17 +37,26 @@ pub fn make_job(alloc: Global, options: Options) -> Result<Job, WordFault>
     ensures ok { IfOk result (λ job. OptionsGive options (Ok job)) }
     ensures err { IfErr result (λ fault. fault ≢ faults.OutOfMemory → OptionsGive options (Err fault)) }
 {
-    if let Some(fault) = first_fault(&BEFORE_PICTURE, &options) {
+    let shape = tested(alloc, &options)?;
+    Ok(job_of(options, shape))
+}
+
+/// How the target's times are written, where the options break no rule.
+fn tested(alloc: Global, options: &Options) -> Result<ToKind, WordFault>
+    ensures ok { IfOk result (Keeps options.now) }
+    ensures err { IfErr result (λ fault. fault ≢ faults.OutOfMemory → OptionsGive options.now (Err fault)) }
+{
+    if let Some(fault) = first_fault(&BEFORE_PICTURE, options) {
         return Err(fault);
     }
-    let shape = read_shape(alloc, &options)?;
-    if let Some(fault) = first_fault(&OF_WAY_BACK, &options) {
+    let shape = read_shape(alloc, options)?;
+    if let Some(fault) = first_fault(&OF_WAY_BACK, options) {
         return Err(fault);
     }
-    if options.back && !are_seconds(&shape) {
+    if is_misprinted(options, &shape) {
         return Err(WordFault::Conflict(Opt::Back, Opt::Format));
     }
-    Ok(job_of(options, shape))
+    Ok(shape)
 }
 
 /// How the target's times are written, whose system is there.
@@ -78,14 +88,17 @@ fn read_picture(
     ensures err { IfErr result (λ fault. fault ≢ faults.OutOfMemory
         → (refusal : TheFault) × RefusesPicture options.now refusal × (fault ≡ faults.BadPicture refusal)) }
 {
-    let text = match &options.format {
+    let picture = Picture::read(alloc, text_of(options, default), system)?;
+    Ok(ToKind::Pictured(picture))
+}
+
+/// The text of the picture that the options give, or else this one.
+fn text_of<'a>(options: &'a Options, default: &'a [u8]) -> &'a [u8]
+    ensures { result.now ≡ unwrap_or options.now.format default.now }
+{
+    match &options.format {
         Some(text) => text.as_slice(),
         None => default,
-    };
-    match Picture::read(alloc, text, system) {
-        Ok(picture) => Ok(ToKind::Pictured(picture)),
-        Err(PictureFault::OutOfMemory) => Err(WordFault::OutOfMemory),
-        Err(fault) => Err(WordFault::BadPicture(fault)),
     }
 }
 
@@ -98,6 +111,16 @@ fn default_type(system: System) -> TimeType
         System::Sclk => TimeType::Sclk,
         System::Tai | System::Tt | System::Tdb => TimeType::Seconds,
     }
+}
+
+/// Whether there is a way back, but not from seconds past J2000 and nothing else.
+fn is_misprinted(options: &Options, shape: &ToKind) -> bool
+    ensures yes { result ≡ true → (has options.now opts.Back ≡ true)
+        × ((picture : ThePicture) → shape.now ≡ Pictured picture → IsSecondsAlone picture.pieces → ⊥) }
+    ensures no { result ≡ false → has options.now opts.Back ≡ true
+        → (picture : ThePicture) × (shape.now ≡ Pictured picture) × IsSecondsAlone picture.pieces }
+{
+    options.back && !are_seconds(shape)
 }
 
 /// Whether times are written as seconds past J2000 and nothing else.

@@ -16,7 +16,8 @@ const MOST_ID: u64 = 999_999_999;
 /// The number that digits spell, where it lies within these bounds.
 #[tactic(auto, unfolding(crate::specs::WordsMachine::number_within))]
 pub fn number_within(text: &[u8], low: u64, high: u64) -> Option<u64>
-    ensures { result ≡ machine.number_within low high text.now }
+    ensures number { result ≡ machine.number_within low high text.now }
+    ensures within { IfSome result (λ number. number ≤ high) }
 {
     if text.is_empty() || !are_digits(text) {
         return None;

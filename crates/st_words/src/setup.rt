@@ -3,6 +3,7 @@
 ghost use Rattle.std.specs.Prelude.{◌≡◌, ◌≢◌, ◌++◌, ◌∷◌, [], ℕ, List, Result, Ok, Err, IfOk, IfErr, OnOk, IfSome, Some, codes};
 ghost use Rattle.st_decimal.specs.Scaling.{IsWhole};
 ghost use Rattle.st_pool.specs.Variable.{loaded_values, loaded_kind};
+ghost use Rattle.st_pool.specs.declared.kind.Kind.TheVariants.{Numbers};
 ghost use Rattle.st_words.specs.Setup.{SetupClock, SetupFiles, IsClockOf, IsId, texts_in, is_of_texts, id_name};
 ghost use Rattle.st_words.specs.declared.fault.IdFault.{IdFault as TheIdFault};
 ghost use Rattle.st_words.specs.declared.fault.SetupFault.{SetupFault as TheSetupFault};
@@ -115,7 +116,8 @@ pub fn setup_clock(pool: &Pool) -> Result<u32, IdFault>
 
 /// The magnitude of the clock's id.
 fn named_clock(pool: &Pool) -> Result<u32, IdFault>
-    ensures { SetupClock pool.now result }
+    ensures gives { SetupClock pool.now result }
+    ensures finds { (n : ℕ) → loaded_kind id_name pool.now ≡ Numbers → IsClockOf (loaded_values id_name pool.now) n → result ≡ Ok n }
 {
     match pool.kind(SPACECRAFT_ID) {
         Kind::Absent => Err(IdFault::Missing),
