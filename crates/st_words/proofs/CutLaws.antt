@@ -1,8 +1,8 @@
 -- The words are cut from the left exactly as the code reads them.
-use Rattle.std.proofs.Common.{one-add, zero, suc, ◌≡◌, ◌≢◌, ◌⊎◌, ℕ, ◌+◌, ◌-◌, ◌<◌, ◌≤◌, Bool, true, false, cond, Option, Some, None, Result, Ok, Err, List, [], ◌∷◌, ◌++◌, length, take, drop, inl, inr, refl, sym, ap, ◌∙◌, subst, arith, length-append}
+use Rattle.std.proofs.Common.{one-add, zero, suc, ◌≡◌, ◌≢◌, ◌⊎◌, ℕ, ◌+◌, ◌-◌, ◌<◌, ◌≤◌, Bool, true, false, cond, Option, Some, None, Result, Ok, Err, List, [], ◌∷◌, ◌++◌, length, take, drop, map, get_or, inl, inr, refl, sym, ap, ◌∙◌, subst, arith, length-append}
 use Rattle.std.proofs.Math.Seq.{take-append_seam, drop-append_seam}
 use Rattle.std.proofs.lemmas.Bool.{cases_Bool}
-use Rattle.std.proofs.lemmas.List.{take-append-drop, length-drop}
+use Rattle.std.proofs.lemmas.List.{take-append-drop, length-map, drop-map}
 use Rattle.std.proofs.lemmas.Option.{same_Some}
 use Rattle.st_words.specs.Cut.{nothing, has, with_choice, Standing, start_of, Takes, Reads, Begins, HasValue, HasBadValue, is_numeric, Stops}
 use Rattle.st_words.specs.OptionWords.{IsWordOf, IsPlain}
@@ -14,7 +14,7 @@ use Rattle.st_words.specs.declared.fault.WordFault.TheVariants.{Unknown, Twice, 
 use Rattle.st_words.specs.declared.opt.Opt.{Opt}
 use Rattle.st_words.specs.declared.opt.Opt.TheVariants.{Setup, From, FromType, To, ToType, Format, Time, Batch, Sample, Sc, Back}
 use Rattle.st_words.specs.declared.options.Options.{Options}
-use Rattle.st_words.proofs.NameLaws.{option_found, option_is, none_is, plain_test}
+use Rattle.st_words.proofs.NameLaws.{option_found, option_is, none_is, plain_none}
 use Rattle.st_words.proofs.ValueLaws.{same_Ok, same_Err, value_found, value_is, bad_is, bad_found, count_found, count_is, count_none}
 
 -- where the reading stands
@@ -117,7 +117,7 @@ option_tells o place word more = by_option (option_of word) refl
     told : (opt : Opt) (r : Result (Choice × ℕ) WordFault) → IsWordOf opt word → has o opt ≡ false → ChoiceTells opt place more r → OptionTells o place word more r
     told opt (Ok found) w new t =
         let P : Opt → Type 0 = λ p. IsWordOf p word × ((has o p ≡ false) × IsValue p (take found.1 more) (drop found.1 more)) in
-        let is = subst P (sym t.option) (w, new, t.value) in
+        let is = subst P (sym t.option) (w, (new, t.value)) in
         record {
           few = count_few found.1 more t.count;
           takes = record {
@@ -125,8 +125,8 @@ option_tells o place word more = by_option (option_of word) refl
             values = take found.1 more;
             words = ap (λ (m : List (List ℕ)). word ∷ m) (sym (take-append-drop found.1 more));
             named = is.0;
-            new = is.1;
-            value = is.2;
+            new = (is.1).0;
+            value = (is.1).1;
             spelled = t.spelled;
             asked = refl;
             place = ap (λ (n : ℕ). place + 1 + n) (sym t.count);
@@ -167,11 +167,114 @@ read_tells o place (suc skip) (word ∷ more) h =
     subst P (omega arith) (read_tells o (place + 1) skip more (omega arith))
 read_tells o place zero (word ∷ more) h =
     let P : ℕ → Type 0 = λ p. Answered (at o p (word ∷ more)) (read o place 0 (word ∷ more)) in
-    subst P (omega arith) (by_found (option_at o place word more) (option_tells o place word more))
+    subst P (omega arith)
+    (by_found (option_at o place word more) (option_tells o place word more) (λ next n few. read_tells next (place + 1) n more few))
   where
     by_found : (r : Result (Choice × ℕ) WordFault) → OptionTells o place word more r
+        → ((next : Options) (n : ℕ) → n ≤ length more → Answered (at next (place + 1 + n) (drop n more)) (read next (place + 1) n more))
         → Answered (at o place (word ∷ more)) (r >>= λ found. read (with_choice o found.0) (place + 1) found.1 more)
-    by_found (Err fault) t = ([], at o place (word ∷ more), refl, t)
-    by_found (Ok found) t =
-        answered_more _ _ found.0 (read (with_choice o found.0) (place + 1) found.1 more) t.takes
-        (read_tells (with_choice o found.0) (place + 1) found.1 more t.few)
+    by_found (Err fault) t go = ([], at o place (word ∷ more), refl, t)
+    by_found (Ok found) t go =
+        answered_more (at o place (word ∷ more)) (at (with_choice o found.0) (place + 1 + found.1) (drop found.1 more)) found.0
+        (read (with_choice o found.0) (place + 1) found.1 more) t.takes (go (with_choice o found.0) found.1 t.few)
+
+-- and what is told is what is read: an option that is taken
+taken_read : (from next : Standing) (choice : Choice) → Takes from choice next → read from.asked from.place 0 from.left ≡ read next.asked next.place 0 next.left
+taken_read from next choice t =
+    let opt = opt_of choice in
+    let more = t.values ++ next.left in
+    let found : option_at from.asked from.place t.word more ≡ Ok (choice, length t.values) =
+        rw (option_found t.word opt t.named, t.new) (choice_found from.place choice t.values next.left t.value t.spelled) in
+    let step : read from.asked from.place 0 (t.word ∷ more) ≡ read (with_choice from.asked choice) (from.place + 1) (length t.values) more = rw found refl in
+    let fits : length t.values ≤ length more = omega (arith, length-append t.values next.left) in
+    ap (λ (w : List (List ℕ)). read from.asked from.place 0 w) t.words ∙ step
+    ∙ read_skip (with_choice from.asked choice) (from.place + 1) (length t.values) more fits
+    ∙ ap (λ (w : List (List ℕ)). read (with_choice from.asked choice) (from.place + 1 + length t.values) 0 w) (drop-append_seam t.values next.left)
+    ∙ ap (λ (o : Options). read o (from.place + 1 + length t.values) 0 next.left) (sym t.asked)
+    ∙ ap (λ (p : ℕ). read next.asked p 0 next.left) (sym t.place)
+
+pub reads_read : (from end : Standing) (choices : List Choice) → Reads from choices end → read from.asked from.place 0 from.left ≡ read end.asked end.place 0 end.left
+reads_read from end [] r = ap (λ (s : Standing). read s.asked s.place 0 s.left) r
+reads_read from end (choice ∷ more) r = taken_read from r.0 choice r.1 ∙ reads_read r.0 end more r.2
+
+-- a value that has no place is none
+begun : (from : Standing) (opt : Opt) (more : List (List ℕ)) (fault : WordFault) → Begins from opt more → choice_of opt from.place more ≡ Err fault
+    → read from.asked from.place 0 from.left ≡ Err fault
+begun from opt more fault b e =
+    let found : option_at from.asked from.place b.word more ≡ Err fault = rw (option_found b.word opt b.named, b.new) e in
+    let step : read from.asked from.place 0 (b.word ∷ more) ≡ Err fault = rw found refl in
+    ap (λ (w : List (List ℕ)). read from.asked from.place 0 w) b.words ∙ step
+
+bad_read : (from : Standing) (opt : Opt) (more : List (List ℕ)) (k : ℕ) → Begins from opt more → HasBadValue opt more k
+    → read from.asked from.place 0 from.left ≡ Err (bad_of opt (from.place + k))
+bad_read from opt more k b h =
+    let P : List (List ℕ) → Type 0 = λ m. choice_of opt from.place m ≡ Err (bad_of opt (from.place + k)) in
+    begun from opt more (bad_of opt (from.place + k)) b (subst P (sym h.2) (bad_choice opt from.place h.0 h.1 k h.3 h.4))
+
+bad_value : (opt : Opt) (place : ℕ) → is_numeric opt ≡ false → bad_of opt place ≡ BadValue place
+bad_value Setup place e = refl
+bad_value From place e = refl
+bad_value FromType place e = refl
+bad_value To place e = refl
+bad_value ToType place e = refl
+bad_value Format place e = refl
+bad_value Time place e = refl
+bad_value Batch place e = refl
+bad_value Sample place e = absurd cc
+bad_value Sc place e = absurd cc
+bad_value Back place e = refl
+
+bad_number : (opt : Opt) (place : ℕ) → is_numeric opt ≡ true → bad_of opt place ≡ BadNumber place
+bad_number Setup place e = absurd cc
+bad_number From place e = absurd cc
+bad_number FromType place e = absurd cc
+bad_number To place e = absurd cc
+bad_number ToType place e = absurd cc
+bad_number Format place e = absurd cc
+bad_number Time place e = absurd cc
+bad_number Batch place e = absurd cc
+bad_number Sample place e = refl
+bad_number Sc place e = refl
+bad_number Back place e = absurd cc
+
+abbrev failed : WordFault → Result Options WordFault
+failed fault = Err fault
+
+pub stops_read : (from : Standing) (fault : WordFault) → Stops from fault → read from.asked from.place 0 from.left ≡ Err fault
+stops_read from (Unknown i) s =
+    let none : option_of s.0 ≡ None = plain_none s.0 s.3 in
+    let found : option_at from.asked from.place s.0 s.1 ≡ Err (Unknown from.place) = rw none refl in
+    let step : read from.asked from.place 0 (s.0 ∷ s.1) ≡ Err (Unknown from.place) = rw found refl in
+    ap (λ (w : List (List ℕ)). read from.asked from.place 0 w) s.2 ∙ step ∙ ap (λ (p : ℕ). failed (Unknown p)) (sym s.4)
+stops_read from (Twice i) s =
+    let found : option_at from.asked from.place s.0 s.1 ≡ Err (Twice from.place) = rw (option_found s.0 s.2 s.4, s.5) refl in
+    let step : read from.asked from.place 0 (s.0 ∷ s.1) ≡ Err (Twice from.place) = rw found refl in
+    ap (λ (w : List (List ℕ)). read from.asked from.place 0 w) s.3 ∙ step ∙ ap (λ (p : ℕ). failed (Twice p)) (sym s.6)
+stops_read from (NoValue i) s =
+    begun from s.0 s.1 (NoValue from.place) s.2 (no_choice s.0 from.place s.1 s.3) ∙ ap (λ (p : ℕ). failed (NoValue p)) (sym s.4)
+stops_read from (BadValue i) s =
+    bad_read from s.0 s.1 s.2 s.3 s.5 ∙ ap failed (bad_value s.0 (from.place + s.2) s.4) ∙ ap (λ (p : ℕ). failed (BadValue p)) (sym s.6)
+stops_read from (BadNumber i) s =
+    bad_read from s.0 s.1 s.2 s.3 s.5 ∙ ap failed (bad_number s.0 (from.place + s.2) s.4) ∙ ap (λ (p : ℕ). failed (BadNumber p)) (sym s.6)
+stops_read from (Missing opt) s = absurd s
+stops_read from (BadPair opt) s = absurd s
+stops_read from (Conflict a b) s = absurd s
+stops_read from (BadPicture f) s = absurd s
+stops_read from OutOfMemory s = absurd s
+
+-- one turn of the loop
+pub loop_kept : {X : Type 0} (f : X → List ℕ) (o next : Options) (place : ℕ) (rest after : List X) (x : X) (word : List ℕ) (choice : Choice) (n : ℕ)
+    → 1 ≤ length rest → x ≡ get_or rest 0 x → word ≡ f x → option_at o place word (map f (drop 1 rest)) ≡ Ok (choice, n) → n ≤ length (drop 1 rest)
+    → next ≡ with_choice o choice → after ≡ drop n (drop 1 rest) → read next (place + (1 + n)) 0 (map f after) ≡ read o place 0 (map f rest)
+loop_kept f o next place [] after x word choice n l is w e few add behind = absurd (omega arith)
+loop_kept {X = X} f o next place (y ∷ rest) after x word choice n l is w e few add behind =
+    let head : word ≡ f y = w ∙ ap f is in
+    let found : option_at o place (f y) (map f rest) ≡ Ok (choice, n) = ap (λ (v : List ℕ). option_at o place v (map f rest)) (sym head) ∙ e in
+    let step : read o place 0 (f y ∷ map f rest) ≡ read (with_choice o choice) (place + 1) n (map f rest) = rw found refl in
+    let fits : n ≤ length (map f rest) = omega (arith, few, length-map rest f) in
+    let skip = read_skip (with_choice o choice) (place + 1) n (map f rest) fits in
+    let ends : map f after ≡ drop n (map f rest) = ap (map f) behind ∙ sym (drop-map f n rest) in
+    ap (λ (m : List (List ℕ)). read next (place + (1 + n)) 0 m) ends
+    ∙ ap (λ (k : Options). read k (place + (1 + n)) 0 (drop n (map f rest))) add
+    ∙ ap (λ (p : ℕ). read (with_choice o choice) p 0 (drop n (map f rest))) (omega arith)
+    ∙ sym skip ∙ sym step

@@ -3,3 +3,5 @@ pub mod NameLaws
 pub mod ValueLaws
 pub mod SetupLaws
 pub mod CutLaws
+pub mod RuleLaws
+pub mod JobLaws

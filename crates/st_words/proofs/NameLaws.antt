@@ -70,6 +70,13 @@ plain_is word h opt e =
 pub none_is : (word : List ℕ) → option_of word ≡ None → IsPlain word
 none_is word e = plain_is word (ap (λ (o : Option Opt). not (is_some o)) e)
 
+plain_by_none : (word : List ℕ) (found : Option Opt) → option_of word ≡ found → IsPlain word → found ≡ None
+plain_by_none word None e p = refl
+plain_by_none word (Some opt) e p = absurd (p opt (option_is word opt e))
+
+pub plain_none : (word : List ℕ) → IsPlain word → option_of word ≡ None
+plain_none word p = plain_by_none word (option_of word) refl p
+
 option_by : (word : List ℕ) (found : Option Opt) → option_of word ≡ found → not (is_some found) ≡ false → (opt : Opt) × IsWordOf opt word
 option_by word None e f = absurd cc
 option_by word (Some opt) e f = (opt, option_is word opt e)

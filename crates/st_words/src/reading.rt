@@ -1,6 +1,6 @@
 //! The words, read from the left.
 
-ghost use Rattle.std.specs.Prelude.{◌≡◌, ◌≢◌, ◌≤◌, ◌<◌, ◌+◌, ◌^◌, Ok, Err, IfOk, IfErr, map, string_bytes, length};
+ghost use Rattle.std.specs.Prelude.{◌≡◌, ◌≢◌, ◌≤◌, ◌<◌, ◌+◌, ◌^◌, Ok, Err, IfOk, IfErr, map, string_bytes, drop, length};
 ghost use Rattle.st_words.specs.Cut.{nothing};
 ghost use Rattle.st_words.specs.WordsMachine as machine;
 ghost use Rattle.st_words.specs.declared.fault.WordFault.TheVariants as faults;
@@ -26,10 +26,18 @@ pub fn read_options(alloc: Global, words: &[String]) -> Result<Options, WordFaul
     while let [word, more @ ..] = rest {
         let (choice, count) = read_option(alloc, &options, place, word.as_bytes(), more)?;
         options.add(choice);
-        rest = &more[count..];
+        rest = behind(more, count);
         place += 1 + count;
     }
     Ok(options)
+}
+
+/// The words behind the first few.
+fn behind(words: &[String], count: usize) -> &[String]
+    requires { count ≤ length words.now }
+    ensures { result.now ≡ drop count words.now }
+{
+    &words[count..]
 }
 
 /// The option whose word stands at a place, with its value, and how many words that has.
