@@ -2,7 +2,7 @@
 use Rattle.std.proofs.Common.{one-add, zero, suc, ◌≡◌, ◌≢◌, ◌⊎◌, ℕ, ◌+◌, ◌-◌, ◌<◌, ◌≤◌, Bool, true, false, cond, Option, Some, None, Result, Ok, Err, List, [], ◌∷◌, ◌++◌, length, take, drop, map, get_or, inl, inr, refl, sym, ap, ◌∙◌, subst, arith, length-append}
 use Rattle.std.proofs.Math.Seq.{take-append_seam, drop-append_seam}
 use Rattle.std.proofs.lemmas.Bool.{cases_Bool}
-use Rattle.std.proofs.lemmas.List.{take-append-drop, length-map, drop-map}
+use Rattle.std.proofs.lemmas.List.{take-append-drop, length-map, length-drop, drop-map}
 use Rattle.std.proofs.lemmas.Option.{same_Some}
 use Rattle.st_words.specs.Cut.{nothing, has, with_choice, Standing, start_of, Takes, Reads, Begins, HasValue, HasBadValue, is_numeric, Stops}
 use Rattle.st_words.specs.OptionWords.{IsWordOf, IsPlain}
@@ -14,6 +14,7 @@ use Rattle.st_words.specs.declared.fault.WordFault.TheVariants.{Unknown, Twice, 
 use Rattle.st_words.specs.declared.opt.Opt.{Opt}
 use Rattle.st_words.specs.declared.opt.Opt.TheVariants.{Setup, From, FromType, To, ToType, Format, Time, Batch, Sample, Sc, Back}
 use Rattle.st_words.specs.declared.options.Options.{Options}
+use Rattle.st_words.proofs.Lists.{tail_of, tail_is}
 use Rattle.st_words.proofs.NameLaws.{option_found, option_is, none_is, plain_none}
 use Rattle.st_words.proofs.ValueLaws.{same_Ok, same_Err, value_found, value_is, bad_is, bad_found, count_found, count_is, count_none}
 
@@ -264,17 +265,28 @@ stops_read from OutOfMemory s = absurd s
 
 -- one turn of the loop
 pub loop_kept : {X : Type 0} (f : X → List ℕ) (o next : Options) (place : ℕ) (rest after : List X) (x : X) (word : List ℕ) (choice : Choice) (n : ℕ)
-    → 1 ≤ length rest → x ≡ get_or rest 0 x → word ≡ f x → option_at o place word (map f (drop 1 rest)) ≡ Ok (choice, n) → n ≤ length (drop 1 rest)
-    → next ≡ with_choice o choice → after ≡ drop n (drop 1 rest) → read next (place + (1 + n)) 0 (map f after) ≡ read o place 0 (map f rest)
+    → 1 ≤ length rest → x ≡ get_or rest 0 x → word ≡ f x → option_at o place word (map f (tail_of rest)) ≡ Ok (choice, n) → n ≤ length (tail_of rest)
+    → next ≡ with_choice o choice → after ≡ drop n (tail_of rest) → read next (place + (1 + n)) 0 (map f after) ≡ read o place 0 (map f rest)
 loop_kept f o next place [] after x word choice n l is w e few add behind = absurd (omega arith)
 loop_kept {X = X} f o next place (y ∷ rest) after x word choice n l is w e few add behind =
     let head : word ≡ f y = w ∙ ap f is in
-    let found : option_at o place (f y) (map f rest) ≡ Ok (choice, n) = ap (λ (v : List ℕ). option_at o place v (map f rest)) (sym head) ∙ e in
+    let tail : tail_of (y ∷ rest) ≡ rest = tail_is y rest in
+    let found : option_at o place (f y) (map f rest) ≡ Ok (choice, n) =
+        ap (λ (v : List ℕ). option_at o place v (map f rest)) (sym head) ∙ ap (λ (r : List X). option_at o place word (map f r)) (sym tail) ∙ e in
     let step : read o place 0 (f y ∷ map f rest) ≡ read (with_choice o choice) (place + 1) n (map f rest) = rw found refl in
-    let fits : n ≤ length (map f rest) = omega (arith, few, length-map rest f) in
+    let long : length (tail_of (y ∷ rest)) ≡ length rest = ap length tail in
+    let fits : n ≤ length (map f rest) = omega (arith, few, long, length-map rest f) in
     let skip = read_skip (with_choice o choice) (place + 1) n (map f rest) fits in
-    let ends : map f after ≡ drop n (map f rest) = ap (map f) behind ∙ sym (drop-map f n rest) in
+    let ends : map f after ≡ drop n (map f rest) = ap (map f) (behind ∙ ap (drop n) tail) ∙ sym (drop-map f n rest) in
     ap (λ (m : List (List ℕ)). read next (place + (1 + n)) 0 m) ends
     ∙ ap (λ (k : Options). read k (place + (1 + n)) 0 (drop n (map f rest))) add
     ∙ ap (λ (p : ℕ). read (with_choice o choice) p 0 (drop n (map f rest))) (omega arith)
     ∙ sym skip ∙ sym step
+
+pub loop_place : {X : Type 0} (rest after : List X) (n place total : ℕ) → 1 ≤ length rest → n ≤ length (tail_of rest) → after ≡ drop n (tail_of rest)
+    → place + length rest ≡ total → place + (1 + n) + length after ≡ total
+loop_place [] after n place total l few behind e = absurd (omega arith)
+loop_place {X = X} (y ∷ rest) after n place total l few behind e =
+    let long : length (tail_of (y ∷ rest)) ≡ length rest = ap length (tail_is y rest) in
+    let left : length after ≡ length (tail_of (y ∷ rest)) - n = ap length behind ∙ length-drop n (tail_of (y ∷ rest)) in
+    omega (arith, long, left, few, e)

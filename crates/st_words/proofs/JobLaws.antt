@@ -91,7 +91,7 @@ no_refusal system text p fault h k known = by (one_reading system text (Ok p) (E
     by (inr (inr e)) = absurd cc
 
 -- a clock has no picture
-no_picture : (o : Options) (s t : System) (text : List ℕ) (kind : TimeType) → o.to ≡ Some s → to_type s o.to_type ≡ kind → default_picture kind ≡ None
+pub no_picture : (o : Options) (s t : System) (text : List ℕ) (kind : TimeType) → o.to ≡ Some s → to_type s o.to_type ≡ kind → default_picture kind ≡ None
     → IsPictured o t text → ⊥
 no_picture o s t text kind to is none p =
     let system : s ≡ t = same_Some s t (sym to ∙ p.to) in
@@ -111,7 +111,7 @@ picture_kept o system (Pictured picture) to w b =
     no_refusal system w.0 picture b.0 w.2 (subst Q one.1 (subst P one.0 refusal.3)) refusal.4
 
 -- a target in ET that fits has a picture
-et_pictured : (o : Options) (shape : ToKind) (kind : Option TimeType) → o.to_type ≡ kind → (IsMisfit (Some Tdb) kind → ⊥) → IsShape o Tdb shape
+pub et_pictured : (o : Options) (shape : ToKind) (kind : Option TimeType) → o.to_type ≡ kind → (IsMisfit (Some Tdb) kind → ⊥) → IsShape o Tdb shape
     → (picture : Picture) × (shape ≡ Pictured picture)
 et_pictured o (Pictured picture) kind e fits w = (picture, refl)
 et_pictured o Clock None e fits w = let bad : to_type Tdb None ≡ types.Sclk = ap (λ (k : Option TimeType). to_type Tdb k) (sym e) ∙ w in absurd cc

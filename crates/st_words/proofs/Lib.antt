@@ -1,7 +1,9 @@
 pub mod Lists
 pub mod NameLaws
 pub mod ValueLaws
-pub mod SetupLaws
 pub mod CutLaws
 pub mod RuleLaws
 pub mod JobLaws
+pub mod OneAnswer
+pub mod GoodJob
+pub mod SetupLaws
