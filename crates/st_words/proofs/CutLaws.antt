@@ -185,7 +185,7 @@ taken_read from next choice t =
     let opt = opt_of choice in
     let more = t.values ++ next.left in
     let found : option_at from.asked from.place t.word more ≡ Ok (choice, length t.values) =
-        rw (option_found t.word opt t.named, t.new) (choice_found from.place choice t.values next.left t.value t.spelled) in
+    rw (option_found t.word opt t.named, t.new) (choice_found from.place choice t.values next.left t.value t.spelled) in
     let step : read from.asked from.place 0 (t.word ∷ more) ≡ read (with_choice from.asked choice) (from.place + 1) (length t.values) more = rw found refl in
     let fits : length t.values ≤ length more = omega (arith, length-append t.values next.left) in
     ap (λ (w : List (List ℕ)). read from.asked from.place 0 w) t.words ∙ step
@@ -272,7 +272,7 @@ loop_kept {X = X} f o next place (y ∷ rest) after x word choice n l is w e few
     let head : word ≡ f y = w ∙ ap f is in
     let tail : tail_of (y ∷ rest) ≡ rest = tail_is y rest in
     let found : option_at o place (f y) (map f rest) ≡ Ok (choice, n) =
-        ap (λ (v : List ℕ). option_at o place v (map f rest)) (sym head) ∙ ap (λ (r : List X). option_at o place word (map f r)) (sym tail) ∙ e in
+    ap (λ (v : List ℕ). option_at o place v (map f rest)) (sym head) ∙ ap (λ (r : List X). option_at o place word (map f r)) (sym tail) ∙ e in
     let step : read o place 0 (f y ∷ map f rest) ≡ read (with_choice o choice) (place + 1) n (map f rest) = rw found refl in
     let long : length (tail_of (y ∷ rest)) ≡ length rest = ap length tail in
     let fits : n ≤ length (map f rest) = omega (arith, few, long, length-map rest f) in

@@ -156,8 +156,17 @@ good_back o job k fits a e =
     elim (cases_Bool (are_seconds_alone shown.0.pieces)) [
       | inl t ↦ record { from = from; to = to; picture = shown.0; shape = shown.1; alone = (tells_alone shown.0.pieces).is t }
       | inr f ↦
-          absurd (k.seconds (asked, (Tdb, written.0, shown.0, written.1, written.2,
-          told_not (are_seconds_alone shown.0.pieces) (IsSecondsAlone shown.0.pieces) (tells_alone shown.0.pieces) f)))
+          absurd (k.seconds (
+            asked,
+            (
+              Tdb,
+              written.0,
+              shown.0,
+              written.1,
+              written.2,
+              told_not (are_seconds_alone shown.0.pieces) (IsSecondsAlone shown.0.pieces) (tells_alone shown.0.pieces) f,
+            ),
+          ))
     ]
 
 pub good_job : (words : List (List ℕ)) (job : Job) → WordsGive words (Ok job) → IsGoodJob job

@@ -193,11 +193,10 @@ pub alone_refuses : (o : Options) (system : System) (shape : ToKind) → AreKept
 alone_refuses o system shape front to w back asked other =
     let et : o.to ≡ Some Tdb = by o.to refl in
     let P : System → Type 0 = λ s. IsShape o s shape in
-    let prints = back_prints_more o shape et fits (subst P (same_Some system Tdb (sym to ∙ et)) w) other in
-    (
+    let prints = back_prints_more o shape et fits (subst P (same_Some system Tdb (sym to ∙ et)) w) other in (
       BackFromSeconds,
       first_behind o before_picture (PictureReads ∷ BackToClock ∷ BackFromEt ∷ BackFromSeconds ∷ []) BackFromSeconds front
-      (inr (picture_kept o system shape to w, inr (back.0, inr ((back.1).0, inl (refl, (asked, prints)))))),
+          (inr (picture_kept o system shape to w, inr (back.0, inr ((back.1).0, inl (refl, (asked, prints)))))),
       inl refl,
     )
   where
@@ -225,8 +224,7 @@ kept_job o shape job k setup from to form written clock work back =
     let same : k.system ≡ job.to = same_Some k.system job.to (sym k.to ∙ to) in
     let P : System → Type 0 = λ s. IsShape o s shape in
     let Q : ToKind → Type 0 = λ w. IsShape o job.to w in
-    let R : Work → Type 0 = λ w. IsWork o w in
-    (
+    let R : Work → Type 0 = λ w. IsWork o w in (
       k.kept,
       record {
         setup = setup;

@@ -6,4 +6,5 @@ pub mod RuleLaws
 pub mod JobLaws
 pub mod OneAnswer
 pub mod GoodJob
+pub mod EachHasAnswer
 pub mod SetupLaws

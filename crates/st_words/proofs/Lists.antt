@@ -47,7 +47,7 @@ pub texts_more : (values : List Value) (i : ℕ) (v : Value) (before names : Lis
     → names ≡ before ++ texts_in (take i values) → names ++ texts_in (v ∷ []) ≡ before ++ texts_in (take (i + 1) values)
 texts_more values i v before names l is e =
     let more : texts_in (take (i + 1) values) ≡ texts_in (take i values) ++ texts_in (v ∷ []) =
-        ap texts_in (one_more values i v l is) ∙ texts_in_append (take i values) (v ∷ []) in
+    ap texts_in (one_more values i v l is) ∙ texts_in_append (take i values) (v ∷ []) in
     grind (arith, more, e, append_assoc)
 
 pub take_of_map : {X Y : Type 0} (f : X → Y) (n : ℕ) (xs : List X) → map f (take n xs) ≡ take n (map f xs)
@@ -69,7 +69,7 @@ joined_is f [] x first text l is e t = absurd (omega arith)
 joined_is {X = X} f (y ∷ xs) x first text l is e t =
     let head : first ≡ f y = e ∙ ap f is in
     let tail : flat_map (λ (z : X). 32 ∷ f z) (tail_of (y ∷ xs)) ≡ flat_map (λ w. 32 ∷ w) (map f xs) =
-        ap (flat_map (λ (z : X). 32 ∷ f z)) (tail_is y xs) ∙ sym (flat_map-map (λ w. 32 ∷ w) f xs) in
+    ap (flat_map (λ (z : X). 32 ∷ f z)) (tail_is y xs) ∙ sym (flat_map-map (λ w. 32 ∷ w) f xs) in
     t ∙ (λ i. head i ++ tail i)
 
 -- a list of one item

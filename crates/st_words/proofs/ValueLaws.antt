@@ -203,9 +203,11 @@ sample_bad : (place : ℕ) (a b : List ℕ) (n s : Option ℕ) (fault : WordFaul
     → sample_by n s (BadNumber (place + 1)) (BadNumber (place + 2)) ≡ Err fault → IsBad Sample place (a ∷ b ∷ []) fault
 sample_bad place a b None s fault en es e =
     (1, inl ((λ n h. let bad = sym en ∙ number_found 1 1_000_000 a n h in absurd cc), refl), sym (same_Err Choice (BadNumber (place + 1)) fault e))
-sample_bad place a b (Some n) None fault en es e =
-    (2, inr (n, number_is 1 1_000_000 a n en, (λ m h. let bad = sym es ∙ number_found 0 (2 ^ 64 - 1) b m h in absurd cc), refl),
-    sym (same_Err Choice (BadNumber (place + 2)) fault e))
+sample_bad place a b (Some n) None fault en es e = (
+  2,
+  inr (n, number_is 1 1_000_000 a n en, (λ m h. let bad = sym es ∙ number_found 0 (2 ^ 64 - 1) b m h in absurd cc), refl),
+  sym (same_Err Choice (BadNumber (place + 2)) fault e),
+)
 sample_bad place a b (Some n) (Some s) fault en es e = absurd cc
 
 single_bad : (opt : Opt) (place : ℕ) (word : List ℕ) (fault : WordFault) → single_of opt place word ≡ Err fault → fault ≡ bad_of opt (place + 1)
@@ -296,7 +298,7 @@ front_plain : (values rest : List (List ℕ)) → ArePlain values → prefix_len
 front_plain [] rest p = omega arith
 front_plain (word ∷ values) rest p =
     let step : prefix_len is_plain (word ∷ (values ++ rest)) ≡ 1 + prefix_len is_plain (values ++ rest) =
-        ap (λ (b : Bool). cond b (1 + prefix_len is_plain (values ++ rest)) 0) (plain_test word p.0) in
+    ap (λ (b : Bool). cond b (1 + prefix_len is_plain (values ++ rest)) 0) (plain_test word p.0) in
     omega (arith, step, front_plain values rest p.1)
 
 rest_none : (rest : List (List ℕ)) → AtOption rest → prefix_len is_plain rest ≡ 0

@@ -68,13 +68,7 @@ fn value_count(opt: Opt, more: &[String]) -> Option<usize>
     match opt {
         Opt::Batch | Opt::Back => Some(0),
         Opt::Sample => at_least(2, plain),
-        Opt::Format | Opt::Time => {
-            if plain == 0 {
-                None
-            } else {
-                Some(plain)
-            }
-        }
+        Opt::Format | Opt::Time => { if plain == 0 { None } else { Some(plain) } }
         _ => at_least(1, plain),
     }
 }
@@ -99,12 +93,7 @@ fn plain_count(words: &[String]) -> usize
 }
 
 /// The option at a place with the value that these words are.
-fn read_value(
-    alloc: Global,
-    opt: Opt,
-    place: usize,
-    values: &[String],
-) -> Result<Choice, WordFault>
+fn read_value(alloc: Global, opt: Opt, place: usize, values: &[String]) -> Result<Choice, WordFault>
     requires { place + 2 < 2 ^ 64 }
     ensures ok { IfOk result (λ choice. machine.value_of opt place (map string_bytes values.now) ≡ Ok choice) }
     ensures err { IfErr result (λ fault. fault ≢ faults.OutOfMemory → machine.value_of opt place (map string_bytes values.now) ≡ Err fault) }

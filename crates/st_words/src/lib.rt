@@ -5,6 +5,7 @@
 mod choice;
 mod fault;
 mod job;
+pub mod laws;
 mod make;
 mod number;
 mod opt;

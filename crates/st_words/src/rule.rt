@@ -74,10 +74,7 @@ pub fn first_fault(rules: &[Rule], options: &Options) -> Option<WordFault>
 fn first_broken(rules: &[Rule], options: &Options) -> Option<Rule>
     ensures { result ≡ find (machine.is_broken options.now) rules.now }
 {
-    rules
-        .iter()
-        .copied()
-        .find(|rule| is_broken(options, *rule))
+    rules.iter().copied().find(|rule| is_broken(options, *rule))
 }
 
 /// Whether the options break a rule; the rules that look at the picture are not tested here.
