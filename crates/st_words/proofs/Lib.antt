@@ -1,0 +1,10 @@
+pub mod Lists
+pub mod NameLaws
+pub mod ValueLaws
+pub mod CutLaws
+pub mod RuleLaws
+pub mod JobLaws
+pub mod OneAnswer
+pub mod GoodJob
+pub mod EachHasAnswer
+pub mod SetupLaws

@@ -1,0 +1,13 @@
+pub mod OptionWords
+pub mod Values
+pub mod Cut
+pub mod Kinds
+pub mod Rules
+pub mod Job
+pub mod Reading
+pub mod Setup
+pub mod Text
+pub mod Laws
+pub mod JobSteps
+pub mod WordsMachine
+pub mod RulesMachine

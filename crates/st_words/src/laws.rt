@@ -1,0 +1,13 @@
+//! Laws of the definition by which words are told. Each function does nothing; its contract is the law.
+
+ghost use Rattle.st_words.specs.Laws.{EachHasAnswer, OneAnswer};
+
+/// No words have two answers.
+pub fn one_answer()
+    ensures { OneAnswer }
+{}
+
+/// All words have an answer.
+pub fn each_has_answer()
+    ensures { EachHasAnswer }
+{}
