@@ -1,0 +1,7 @@
+pub mod Answers
+pub mod Kept
+pub mod Laws
+pub mod Names
+pub mod Tables
+pub mod TablesMachine
+pub mod Variables

@@ -1,0 +1,121 @@
+//! The clock of one id that the loaded kernels give, and its numbers.
+
+ghost use Rattle.std.specs.Prelude.{◌≡◌, ◌≢◌, ◌↔◌, length, map, Ok, Err, Some, IfOk, IfErr, OnOk, OnErr, IsOk, IsTrue, option_map};
+ghost use Rattle.st_ticks.specs.Rules.{AreKept};
+ghost use Rattle.st_ticks.specs.declared.variable.Var.TheVariants.{Clock as OfClock};
+ghost use Rattle.st_tables.specs.Tables.{ClockGives, ClockMade};
+ghost use Rattle.st_tables.specs.TablesMachine.{clock_numbers};
+ghost use Rattle.st_tables.specs.Variables.{Keeps, all_numbers, clock_vars as vars_of, numbers_of, rules_of_all};
+ghost use Rattle.st_tables.specs.declared.fault.TableFault.TheVariants.{OutOfMemory as NoMemory};
+
+use crate::fault::TableFault;
+use crate::kinds::first_refused;
+use crate::numbers::{Numbers, are_given, read_numbers};
+use st_clock::{Clock, check_system};
+use st_decimal::{Dec, List};
+use st_pool::Pool;
+use st_ticks::{ClockVar, Face, Var};
+use std::alloc::Global;
+
+/// The clock of the id -n, and the numbers from which it was made.
+#[derive(Debug, Drop)]
+pub struct KeptClock {
+    pub n: u32,
+    pub numbers: Numbers,
+    pub table: Clock,
+    pub ghost lists: { length numbers ≡ 9 },
+    pub ghost made: { ClockMade (clock_numbers numbers) (Ok table) },
+}
+
+/// The variables of the clock of the id -n, in the order in which they are gone through.
+fn clock_vars(n: u32) -> [Var; 9]
+    ensures { result ≡ vars_of n }
+{
+    [
+        var(ClockVar::DataType, n),
+        var(ClockVar::TimeSystem, n),
+        var(ClockVar::NFields, n),
+        var(ClockVar::Moduli, n),
+        var(ClockVar::Offsets, n),
+        var(ClockVar::Delim, n),
+        var(ClockVar::Start, n),
+        var(ClockVar::End, n),
+        var(ClockVar::Coefficients, n),
+    ]
+}
+
+fn var(var: ClockVar, n: u32) -> Var
+    ensures { result ≡ OfClock var n }
+{
+    Var::Clock { var, n }
+}
+
+/// Keeps the clock of the loaded kernels and the id -n, in place of one of other numbers or of another id.
+pub fn keep(alloc: Global, kept: &mut Option<KeptClock>, pool: &Pool, n: u32) -> Result<(), TableFault>
+    ensures kinds { OnOk result (AreKept (Keeps pool.now) (rules_of_all (vars_of n))) }
+    ensures ok { OnOk result (option_map (λ k. (k.n, k.numbers)) kept.new ≡ Some (n, all_numbers pool.now (vars_of n))) }
+    ensures err { OnErr result (kept.new ≡ kept.old) }
+    ensures fault { IfErr result (λ fault. ClockGives n pool.now (Err fault)) }
+    ensures no_memory { AreKept (Keeps pool.now) (rules_of_all (vars_of n))
+        → option_map (λ k. (k.n, k.numbers)) kept.old ≡ Some (n, all_numbers pool.now (vars_of n)) → IsOk result }
+{
+    if let Some(fault) = first_refused(pool, &clock_vars(n)) {
+        return Err(fault);
+    }
+    if !is_of(kept, pool, n) {
+        *kept = Some(make(alloc, pool, n)?);
+    }
+    Ok(())
+}
+
+/// Whether the clock of the id is kept, and the loaded kernels give its numbers.
+fn is_of(kept: &Option<KeptClock>, pool: &Pool, n: u32) -> bool
+    requires { AreKept (Keeps pool.now) (rules_of_all (vars_of n)) }
+    ensures { IsTrue result ↔ (option_map (λ k. (k.n, k.numbers)) kept.now ≡ Some (n, all_numbers pool.now (vars_of n))) }
+{
+    match kept {
+        Some(kept) => kept.n == n && are_given(pool, &clock_vars(n), kept.numbers.as_slice()),
+        None => false,
+    }
+}
+
+/// The clock of the loaded kernels.
+fn make(alloc: Global, pool: &Pool, n: u32) -> Result<KeptClock, TableFault>
+    ensures ok { IfOk result (λ kept. (kept.n ≡ n) × (kept.numbers ≡ all_numbers pool.now (vars_of n))) }
+    ensures err { IfErr result (λ fault. fault ≢ NoMemory
+        → ClockMade (λ v. numbers_of pool.now (OfClock v n)) (Err fault)) }
+{
+    let numbers = read_numbers(alloc, pool, &clock_vars(n))?;
+    let table = clock_of(alloc, numbers.as_slice())?;
+    Ok(KeptClock { n, numbers, table })
+}
+
+/// The clock that the numbers of its nine variables describe. The faults of the data type and the time system come before those
+/// of the face.
+fn clock_of(alloc: Global, numbers: &[List<Dec>]) -> Result<Clock, TableFault>
+    requires { length numbers.now ≡ 9 }
+    ensures ok { IfOk result (λ table. ClockMade (clock_numbers numbers.now) (Ok table)) }
+    ensures err { IfErr result (λ fault. fault ≢ NoMemory → ClockMade (clock_numbers numbers.now) (Err fault)) }
+{
+    let [data_type, time_system, n_fields, moduli, offsets, delim, starts, ends, coefficients] = numbers else {
+        unreachable!()
+    };
+    check_system(data_type.as_slice(), time_system.as_slice())?;
+    let face = Face::from_parts(
+        alloc,
+        n_fields.as_slice(),
+        moduli.as_slice(),
+        offsets.as_slice(),
+        delim.as_slice(),
+        starts.as_slice(),
+        ends.as_slice(),
+    )?;
+    let clock = Clock::from_parts(
+        alloc,
+        face,
+        data_type.as_slice(),
+        time_system.as_slice(),
+        coefficients.as_slice(),
+    )?;
+    Ok(clock)
+}
