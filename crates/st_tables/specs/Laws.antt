@@ -1,7 +1,6 @@
 -- Laws of the tables that loaded kernels give, each the contract of an empty function of `laws`.
-use Rattle.std.specs.Prelude.{◌≡◌, ◌≢◌, ℕ, List, map, Result, Ok, Err}
-use Rattle.std.specs.List.{All}
-use Rattle.st_decimal.specs.declared.number.Dec.{Dec}
+use Rattle.std.specs.Prelude.{◌≡◌, ℕ, List, map, Result}
+use Rattle.std.specs.List.{AllByRecursion}
 use Rattle.st_kernel_text.specs.declared.value.Value.TheVariants.{Number}
 use Rattle.st_leaps.specs.declared.pair.LeapPair.{LeapPair}
 use Rattle.st_pool.specs.Variable.{loaded_values, loaded_kind}
@@ -30,7 +29,7 @@ pub record IsAlike (one other : Loaded) (var : Var) : Type 0 where
   pub values : loaded_values (var_name var) one ≡ loaded_values (var_name var) other
 
 abbrev pub AreAlike : Loaded → Loaded → List Var → Type 0
-AreAlike one other vars = All (IsAlike one other) vars
+AreAlike one other vars = AllByRecursion (IsAlike one other) vars
 
 -- A table depends on the values of its own variables alone.
 abbrev pub LeapsByTheirOwn : Type 0

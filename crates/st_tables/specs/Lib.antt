@@ -1,5 +1,6 @@
 pub mod Answers
 pub mod Kept
+pub mod KeptSteps
 pub mod Laws
 pub mod Names
 pub mod Tables

@@ -1,10 +1,9 @@
 -- The tables that the loaded kernels give: each is a table, or the first refusal. It depends on the values of the table's own
 -- variables alone.
-use Rattle.std.specs.Prelude.{◌≡◌, ◌≢◌, ℕ, List, ◌++◌, Result, Ok, Err}
+use Rattle.std.specs.Prelude.{◌≡◌, ℕ, List, ◌++◌, Result, Ok, Err}
 use Rattle.st_decimal.specs.declared.number.Dec.{Dec}
-use Rattle.st_leaps.specs.Faults as leaps
+use Rattle.st_leaps.specs.Faults.{IsFirstFault}
 use Rattle.st_leaps.specs.Numbers.{IsTableOf}
-use Rattle.st_leaps.specs.declared.fault.LeapFault.TheVariants as leap
 use Rattle.st_leaps.specs.declared.pair.LeapPair.{LeapPair}
 use Rattle.st_scales.specs.Constants.{GiveConstants}
 use Rattle.st_scales.specs.declared.deltet.Deltet.{Deltet as Constants}
@@ -32,7 +31,7 @@ TableGives loaded vars Made answer = AreKept (Keeps loaded) (rules_of_all vars) 
 -- what is made of the numbers of DELTET/DELTA_AT: the table of leap seconds, or their first fault
 abbrev pub LeapsMade : List Dec → Result (List LeapPair) TableFault → Type 0
 LeapsMade numbers (Ok pairs) = IsTableOf numbers pairs
-LeapsMade numbers (Err (Leaps fault)) = (fault ≢ leap.OutOfMemory) × leaps.Gives numbers (Err fault)
+LeapsMade numbers (Err (Leaps fault)) = IsFirstFault numbers fault
 LeapsMade numbers (Err fault) = ⊥
 
 abbrev pub LeapsGive : Loaded → Result (List LeapPair) TableFault → Type 0

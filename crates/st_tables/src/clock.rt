@@ -5,6 +5,7 @@ ghost use Rattle.st_ticks.specs.Rules.{AreKept};
 ghost use Rattle.st_ticks.specs.declared.variable.Var.TheVariants.{Clock as OfClock};
 ghost use Rattle.st_tables.specs.Tables.{ClockGives, ClockMade};
 ghost use Rattle.st_tables.specs.TablesMachine.{clock_numbers};
+ghost use Rattle.st_tables.specs.KeptSteps.{IsClock};
 ghost use Rattle.st_tables.specs.Variables.{Keeps, all_numbers, clock_vars as vars_of, numbers_of, rules_of_all};
 ghost use Rattle.st_tables.specs.declared.fault.TableFault.TheVariants.{OutOfMemory as NoMemory};
 
@@ -16,15 +17,45 @@ use st_decimal::{Dec, List};
 use st_pool::Pool;
 use st_ticks::{ClockVar, Face, Var};
 use std::alloc::Global;
+use std::marker::Model;
 
 /// The clock of the id -n, and the numbers from which it was made.
 #[derive(Debug, Drop)]
 pub struct KeptClock {
-    pub n: u32,
-    pub numbers: Numbers,
-    pub table: Clock,
-    pub ghost lists: { length numbers ≡ 9 },
-    pub ghost made: { ClockMade (clock_numbers numbers) (Ok table) },
+    n: u32,
+    numbers: Numbers,
+    table: Clock,
+}
+
+impl Model for KeptClock {
+    ghost use Rattle.std.specs.Prelude.{ℕ, List};
+    ghost use Rattle.st_clock.specs.Clock.{Clock as SeenClock};
+    ghost use Rattle.st_decimal.specs.declared.number.Dec.{Dec as Decimal};
+    ghost use Rattle.st_tables.specs.KeptSteps.{IsClock};
+
+    ghost Value = { (ℕ × List (List Decimal)) × SeenClock };
+
+    ghost view = { λ k. ((k.n, k.numbers), k.table) };
+
+    ghost invariant = { λ k. IsClock k.numbers k.table };
+}
+
+impl KeptClock {
+    /// The clock.
+    pub fn table(&self) -> &Clock
+        ensures value { result.now ≡ self.now.1 }
+        ensures made { IsClock self.now.0.1 self.now.1 }
+    {
+        &self.table
+    }
+
+    /// Whether it is the clock of this id, and the loaded kernels give the numbers from which it was made.
+    fn is_of(&self, pool: &Pool, n: u32) -> bool
+        requires { AreKept (Keeps pool.now) (rules_of_all (vars_of n)) }
+        ensures { IsTrue result ↔ (self.now.0 ≡ (n, all_numbers pool.now (vars_of n))) }
+    {
+        self.n == n && are_given(pool, &clock_vars(n), self.numbers.as_slice())
+    }
 }
 
 /// The variables of the clock of the id -n, in the order in which they are gone through.
@@ -53,35 +84,36 @@ fn var(var: ClockVar, n: u32) -> Var
 /// Keeps the clock of the loaded kernels and the id -n, in place of one of other numbers or of another id.
 pub fn keep(alloc: Global, kept: &mut Option<KeptClock>, pool: &Pool, n: u32) -> Result<(), TableFault>
     ensures kinds { OnOk result (AreKept (Keeps pool.now) (rules_of_all (vars_of n))) }
-    ensures ok { OnOk result (option_map (λ k. (k.n, k.numbers)) kept.new ≡ Some (n, all_numbers pool.now (vars_of n))) }
+    ensures ok { OnOk result (option_map (λ k. k.0) kept.new ≡ Some (n, all_numbers pool.now (vars_of n))) }
     ensures err { OnErr result (kept.new ≡ kept.old) }
     ensures fault { IfErr result (λ fault. ClockGives n pool.now (Err fault)) }
     ensures no_memory { AreKept (Keeps pool.now) (rules_of_all (vars_of n))
-        → option_map (λ k. (k.n, k.numbers)) kept.old ≡ Some (n, all_numbers pool.now (vars_of n)) → IsOk result }
+        → option_map (λ k. k.0) kept.old ≡ Some (n, all_numbers pool.now (vars_of n)) → IsOk result }
 {
     if let Some(fault) = first_refused(pool, &clock_vars(n)) {
         return Err(fault);
     }
-    if !is_of(kept, pool, n) {
-        *kept = Some(make(alloc, pool, n)?);
+    if is_of(kept, pool, n) {
+        return Ok(());
     }
+    *kept = Some(make(alloc, pool, n)?);
     Ok(())
 }
 
 /// Whether the clock of the id is kept, and the loaded kernels give its numbers.
 fn is_of(kept: &Option<KeptClock>, pool: &Pool, n: u32) -> bool
     requires { AreKept (Keeps pool.now) (rules_of_all (vars_of n)) }
-    ensures { IsTrue result ↔ (option_map (λ k. (k.n, k.numbers)) kept.now ≡ Some (n, all_numbers pool.now (vars_of n))) }
+    ensures { IsTrue result ↔ (option_map (λ k. k.0) kept.now ≡ Some (n, all_numbers pool.now (vars_of n))) }
 {
     match kept {
-        Some(kept) => kept.n == n && are_given(pool, &clock_vars(n), kept.numbers.as_slice()),
+        Some(kept) => kept.is_of(pool, n),
         None => false,
     }
 }
 
 /// The clock of the loaded kernels.
 fn make(alloc: Global, pool: &Pool, n: u32) -> Result<KeptClock, TableFault>
-    ensures ok { IfOk result (λ kept. (kept.n ≡ n) × (kept.numbers ≡ all_numbers pool.now (vars_of n))) }
+    ensures ok { IfOk result (λ kept. kept.0 ≡ (n, all_numbers pool.now (vars_of n))) }
     ensures err { IfErr result (λ fault. fault ≢ NoMemory
         → ClockMade (λ v. numbers_of pool.now (OfClock v n)) (Err fault)) }
 {

@@ -43,9 +43,9 @@ impl Model for Tables {
     ghost Value = { Kept };
 
     ghost view = { λ t. record {
-      leaps = option_map (λ k. k.numbers) t.leaps;
-      constants = option_map (λ k. k.numbers) t.constants;
-      clock = option_map (λ k. (k.n, k.numbers)) t.clock;
+      leaps = option_map (λ k. k.0) t.leaps;
+      constants = option_map (λ k. k.0) t.constants;
+      clock = option_map (λ k. k.0) t.clock;
     } };
 }
 
@@ -154,7 +154,7 @@ impl Tables {
         ensures { IfSome self.now.leaps (λ numbers. LeapsMade (list_at numbers 0) (Ok (pairs_of result.now))) }
     {
         match &self.leaps {
-            Some(kept) => &kept.table,
+            Some(kept) => kept.table(),
             None => unreachable!(),
         }
     }
@@ -166,7 +166,7 @@ impl Tables {
             ConstantsMade (list_at numbers 0) (list_at numbers 1) (list_at numbers 2) (list_at numbers 3) (Ok result.now)) }
     {
         match &self.constants {
-            Some(kept) => &kept.table,
+            Some(kept) => kept.table(),
             None => unreachable!(),
         }
     }
@@ -177,7 +177,7 @@ impl Tables {
         ensures { IfSome self.now.clock (λ kept. ClockMade (clock_numbers kept.1) (Ok result.now)) }
     {
         match &self.clock {
-            Some(kept) => &kept.table,
+            Some(kept) => kept.table(),
             None => unreachable!(),
         }
     }

@@ -1,0 +1,6 @@
+pub mod ClockLaws
+pub mod GivenLaws
+pub mod KindLaws
+pub mod LeapLaws
+pub mod NumberLaws
+pub mod RuleLaws
