@@ -2,6 +2,7 @@
 use Rattle.std.proofs.Common.{◌≡◌, ◌≢◌, ℕ, ◌+◌, ◌<◌, ◌⊎◌, inl, inr, refl, sym, ap, ◌∙◌, subst, arith, suc, zero, List, [], ◌∷◌, ◌++◌, length, take, drop, get_or, MatchOption, Option, Some, None}
 use Rattle.std.specs.List.{flat_map}
 use Rattle.std.proofs.lemmas.Grind.{flat_map-append}
+use Rattle.std.proofs.lemmas.List.{take_more}
 use Rattle.st_ticks.proofs.RuleLaws.{split_at}
 use Rattle.st_pool.specs.Variable.{loaded_kind}
 use Rattle.st_pool.specs.declared.kind.Kind.{Kind}
@@ -106,15 +107,10 @@ rules_more xs ys = flat_map-append rules_of xs ys
 pub one_kept : (loaded : Loaded) (vars : List Var) (i : ℕ) (d : Var) → i < length vars → AreKept (Keeps loaded) (rules_of_all (take i vars))
     → AreKept (Keeps loaded) (rules_of (get_or vars i d)) → AreKept (Keeps loaded) (rules_of_all (take (i + 1) vars))
 one_kept loaded vars i d l h k =
-    subst (λ (xs : List Var). AreKept (Keeps loaded) (rules_of_all xs)) (sym (take_more_at vars i d l))
+    subst (λ (xs : List Var). AreKept (Keeps loaded) (rules_of_all xs)) (sym (take_more vars i d l))
     (subst (λ (rules : List TableFault). AreKept (Keeps loaded) rules) (sym (rules_more (take i vars) (get_or vars i d ∷ [])))
     (kept_both (Keeps loaded) (rules_of_all (take i vars)) (rules_of (get_or vars i d) ++ []) h
     (kept_both (Keeps loaded) (rules_of (get_or vars i d)) [] k tt)))
-  where
-    take_more_at : (xs : List Var) (j : ℕ) (d : Var) → j < length xs → take (j + 1) xs ≡ take j xs ++ (get_or xs j d ∷ [])
-    take_more_at [] j d h = absurd (omega arith)
-    take_more_at (x ∷ xs) zero d h = refl
-    take_more_at (x ∷ xs) (suc j) d h = ap (λ (ys : List Var). x ∷ ys) (take_more_at xs j d (omega arith))
 
 pub one_broken : (loaded : Loaded) (vars : List Var) (i : ℕ) (d : Var) (fault : TableFault) → i < length vars → AreKept (Keeps loaded) (rules_of_all (take i vars))
     → IsFirstBroken (Keeps loaded) (rules_of (get_or vars i d)) fault → IsFirstBroken (Keeps loaded) (rules_of_all vars) fault

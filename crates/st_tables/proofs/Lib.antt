@@ -4,3 +4,5 @@ pub mod KindLaws
 pub mod LeapLaws
 pub mod NumberLaws
 pub mod RuleLaws
+pub mod TableLaws
+pub mod ThreeLaws

@@ -41,15 +41,18 @@ all-numbers ((Number d) ∷ values) e = ap (λ (l : List Value). (Number d) ∷ 
 all-numbers ((Text t) ∷ values) e = absurd cc
 
 -- where no assignment is of the name, there are no values
-none-left : (name : List ℕ) (assignments : List Assignment) → list_any (is_of name) assignments ≡ false → filter (λ a. bytes_eq a.name name) assignments ≡ []
+abbrev NoneLeft : List ℕ → List Assignment → Type 0
+NoneLeft name assignments = list_any (is_of name) assignments ≡ false → filter (λ a. bytes_eq a.name name) assignments ≡ []
+
+one-left : (name : List ℕ) (a : Assignment) (more : List Assignment) (b : Bool) → bytes_eq a.name name ≡ b → NoneLeft name more → NoneLeft name (a ∷ more)
+one-left name a more true f rest e = absurd (let t : true ≡ false = sym (ap (λ (x : Bool). x || list_any (is_of name) more) f) ∙ e in cc)
+one-left name a more false f rest e =
+    ap (λ (x : Bool). cond x (a ∷ filter (λ x. bytes_eq x.name name) more) (filter (λ x. bytes_eq x.name name) more)) f
+    ∙ rest (sym (ap (λ (x : Bool). x || list_any (is_of name) more) f) ∙ e)
+
+none-left : (name : List ℕ) (assignments : List Assignment) → NoneLeft name assignments
 none-left name [] e = refl
-none-left name (a ∷ more) e = by (bytes_eq a.name name) refl
-  where
-    by : (b : Bool) → bytes_eq a.name name ≡ b → filter (λ x. bytes_eq x.name name) (a ∷ more) ≡ []
-    by true f = absurd (let t : true ≡ false = sym (ap (λ (x : Bool). x || list_any (is_of name) more) f) ∙ e in cc)
-    by false f =
-        ap (λ (x : Bool). cond x (a ∷ filter (λ x. bytes_eq x.name name) more) (filter (λ x. bytes_eq x.name name) more)) f
-        ∙ none-left name more (sym (ap (λ (x : Bool). x || list_any (is_of name) more) f) ∙ e)
+none-left name (a ∷ more) e = one-left name a more (bytes_eq a.name name) refl (none-left name more) e
 
 no-values : (name : List ℕ) (assignments : List Assignment) → list_any (is_of name) assignments ≡ false → values_of name assignments ≡ []
 no-values name assignments e = ap (λ (l : List Assignment). flat_map (λ a. a.values) (since_last_set l)) (none-left name assignments e)

@@ -6,6 +6,6 @@ use Rattle.st_tables.proofs.numbers.are_values.Given as goal
 
 abbrev pub invariant-loop-i : goal.invariant-loop-i
 invariant-loop-i l = record {
-  name : l.name.now ≡ var_name l.fn.var;
+  name : l.name ≡ var_name l.fn.var;
   same : take l.i (loaded_values (var_name l.fn.var) l.pool) ≡ map Number (take l.i l.numbers);
 }

@@ -6,7 +6,7 @@ use Rattle.st_tables.proofs.numbers.numbers_of.Given as goal
 
 abbrev pub invariant-loop-i : goal.invariant-loop-i
 invariant-loop-i l = record {
-  name : l.name.now ≡ var_name l.fn.var;
+  name : l.name ≡ var_name l.fn.var;
   end : l.i-end ≡ length (loaded_values (var_name l.fn.var) l.pool);
   list : l.list ≡ numbers_in (take l.i (loaded_values (var_name l.fn.var) l.pool));
 }
