@@ -1,5 +1,5 @@
 -- The clock of nine variables, or their first fault: by the parts in which it is made, and that it is one.
-use Rattle.std.proofs.Common.{◌≡◌, ◌⊎◌, inl, inr, List, [], ◌∷◌, ◌++◌, Result, Ok, Err, refl, sym, ◌∙◌, ap, subst}
+use Rattle.std.proofs.Common.{◌≡◌, ◌≢◌, ℕ, ◌⊎◌, inl, inr, List, [], ◌∷◌, ◌++◌, Result, Ok, Err, refl, sym, ◌∙◌, ap, subst}
 use Rattle.st_decimal.specs.declared.number.Dec.{Dec}
 use Rattle.st_scales.specs.declared.scale.Scale.{Scale}
 use Rattle.st_clock.specs.Clock.{Clock}
@@ -14,9 +14,14 @@ use Rattle.st_ticks.specs.declared.fault.FaceFault.{FaceFault}
 use Rattle.st_ticks.specs.declared.fault.FaceFault.TheVariants.{Bad, OutOfMemory}
 use Rattle.st_ticks.specs.declared.variable.ClockFault.{ClockFault}
 use Rattle.st_ticks.specs.declared.variable.ClockVar.{ClockVar}
-use Rattle.st_ticks.specs.declared.variable.ClockVar.TheVariants.{DataType, TimeSystem, Coefficients}
+use Rattle.st_ticks.specs.declared.variable.ClockVar.TheVariants.{DataType, TimeSystem, NFields, Moduli, Offsets, Delim, Start, End, Coefficients}
 use Rattle.st_ticks.proofs.FirstLaws.{first_is_one, none_broken}
 use Rattle.st_ticks.proofs.OnlyLaws.{makes_one}
+use Rattle.std.specs.Result.{IsErrAnd, IfErr}
+use Rattle.st_ticks.specs.declared.variable.Var.TheVariants as ofvar
+use Rattle.st_tables.specs.Variables.{Loaded, all_numbers, numbers_of, clock_vars}
+use Rattle.st_tables.specs.ClockSteps.{ClockAnswers}
+use Rattle.st_tables.specs.TablesMachine.{fault_of_face, clock_numbers, list_at}
 use Rattle.st_tables.specs.Tables.{KeepsOfClock, clock_rules, face_numbers, ClockMade}
 use Rattle.st_tables.specs.declared.fault.TableFault.{TableFault}
 use Rattle.st_tables.specs.declared.fault.TableFault.TheVariants.{NoVariable, WrongKind, Leaps, Deltet, Clock as OfClock, OutOfMemory as NoMemory}
@@ -127,3 +132,52 @@ clock_is_one n (Err (WrongKind v)) b h k = absurd h
 clock_is_one n (Err (Leaps f)) b h k = absurd h
 clock_is_one n (Err (Deltet f)) b h k = absurd h
 clock_is_one n (Err NoMemory) b h k = absurd h
+
+-- what an exit answers
+pub exits : (n : Numbers) (r : Result Clock TableFault) (fault : TableFault) → IsErrAnd r (λ x. x ≡ fault) → (fault ≢ NoMemory → ClockMade n (Err fault))
+    → ClockAnswers n r
+exits n (Ok c) fault h m = absurd h
+exits n (Err x) fault h m = λ other. subst (λ (f : TableFault). ClockMade n (Err f)) (sym h) (m (λ e. other (h ∙ e)))
+
+pub face_exit : (n : Numbers) (scale : Scale) (fault : FaceFault) → GivesScale (n DataType) (n TimeSystem) (Ok scale)
+    → MakesFace (face_numbers n) (Err fault) → fault_of_face fault ≢ NoMemory → ClockMade n (Err (fault_of_face fault))
+face_exit n scale (Bad f) g m other = face_breaks n scale f g m
+face_exit n scale OutOfMemory g m other = absurd (other refl)
+
+pub records_exit : (n : Numbers) (scale : Scale) (f : Face) (fault : FaceFault) → GivesScale (n DataType) (n TimeSystem) (Ok scale)
+    → MakesFace (face_numbers n) (Ok f) → GivesClock f (n DataType) (n TimeSystem) (n Coefficients) (Err fault)
+    → fault_of_face fault ≢ NoMemory → ClockMade n (Err (fault_of_face fault))
+records_exit n scale f (Bad fault) g m h other = records_break n scale f fault g m h
+records_exit n scale f OutOfMemory g m h other = absurd (other refl)
+
+pub found : (n : Numbers) (f : Face) (c : Clock) → MakesFace (face_numbers n) (Ok f) → GivesClock f (n DataType) (n TimeSystem) (n Coefficients) (Ok c)
+    → ClockMade n (Ok c)
+found n f c m g =
+    let same = sym g.1.0 in
+    (subst (λ (x : Face). MakesFace (face_numbers n) (Ok x)) same m,
+    subst (λ (x : Face). GivesClock x (n DataType) (n TimeSystem) (n Coefficients) (Ok c)) same g)
+
+-- the same numbers give the same
+pub same_answers : (n m : Numbers) (r : Result Clock TableFault) → ((v : ClockVar) → n v ≡ m v) → ClockAnswers n r → ClockAnswers m r
+same_answers n m r e = subst (λ (x : Numbers). ClockAnswers x r) (λ i v. e v i)
+
+pub carried : {B : Type 0} (n m : Numbers) (r : Result B TableFault) (fault : TableFault) → ((v : ClockVar) → n v ≡ m v) → IsErrAnd r (λ x. x ≡ fault)
+    → (fault ≢ NoMemory → ClockMade n (Err fault)) → IfErr r (λ f. f ≢ NoMemory → ClockMade m (Err f))
+carried n m (Ok x) fault e h made = tt
+carried n m (Err f) fault e h made = λ other.
+    let same : n ≡ m = λ i v. e v i in
+    subst (λ (x : Numbers). ClockMade x (Err f)) same
+    (subst (λ (y : TableFault). ClockMade n (Err y)) (sym h) (made (λ g. other (h ∙ g))))
+
+-- the numbers by their places are those of the variables
+pub in_order : (loaded : Loaded) (n : ℕ) (numbers : List (List Dec)) → numbers ≡ all_numbers loaded (clock_vars n)
+    → (v : ClockVar) → clock_numbers numbers v ≡ numbers_of loaded (ofvar.Clock v n)
+in_order loaded n numbers e DataType = ap (λ (l : List (List Dec)). list_at l 0) e
+in_order loaded n numbers e TimeSystem = ap (λ (l : List (List Dec)). list_at l 1) e
+in_order loaded n numbers e NFields = ap (λ (l : List (List Dec)). list_at l 2) e
+in_order loaded n numbers e Moduli = ap (λ (l : List (List Dec)). list_at l 3) e
+in_order loaded n numbers e Offsets = ap (λ (l : List (List Dec)). list_at l 4) e
+in_order loaded n numbers e Delim = ap (λ (l : List (List Dec)). list_at l 5) e
+in_order loaded n numbers e Start = ap (λ (l : List (List Dec)). list_at l 6) e
+in_order loaded n numbers e End = ap (λ (l : List (List Dec)). list_at l 7) e
+in_order loaded n numbers e Coefficients = ap (λ (l : List (List Dec)). list_at l 8) e

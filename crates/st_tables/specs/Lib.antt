@@ -1,4 +1,5 @@
 pub mod Answers
+pub mod ClockSteps
 pub mod Kept
 pub mod KeptSteps
 pub mod Laws

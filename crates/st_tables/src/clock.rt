@@ -5,6 +5,8 @@ ghost use Rattle.st_ticks.specs.Rules.{AreKept};
 ghost use Rattle.st_ticks.specs.declared.variable.Var.TheVariants.{Clock as OfClock};
 ghost use Rattle.st_tables.specs.Tables.{ClockGives, ClockMade};
 ghost use Rattle.st_tables.specs.TablesMachine.{clock_numbers};
+ghost use Rattle.st_tables.specs.ClockSteps.{by_var, ClockAnswers};
+ghost use Rattle.st_ticks.specs.declared.variable.ClockVar.{ClockVar as OneVar};
 ghost use Rattle.st_tables.specs.KeptSteps.{IsClock};
 ghost use Rattle.st_tables.specs.Variables.{Keeps, all_numbers, clock_vars as vars_of, numbers_of, rules_of_all};
 ghost use Rattle.st_tables.specs.declared.fault.TableFault.TheVariants.{OutOfMemory as NoMemory};
@@ -114,40 +116,74 @@ fn is_of(kept: &Option<KeptClock>, pool: &Pool, n: u32) -> bool
 /// The clock of the loaded kernels.
 fn make(alloc: Global, pool: &Pool, n: u32) -> Result<KeptClock, TableFault>
     ensures ok { IfOk result (λ kept. kept.0 ≡ (n, all_numbers pool.now (vars_of n))) }
-    ensures err { IfErr result (λ fault. fault ≢ NoMemory
-        → ClockMade (λ v. numbers_of pool.now (OfClock v n)) (Err fault)) }
+    ensures err { IfErr result (λ fault. fault ≢ NoMemory → ClockMade (λ v. numbers_of pool.now (OfClock v n)) (Err fault)) }
 {
     let numbers = read_numbers(alloc, pool, &clock_vars(n))?;
     let table = clock_of(alloc, numbers.as_slice())?;
     Ok(KeptClock { n, numbers, table })
 }
 
-/// The clock that the numbers of its nine variables describe. The faults of the data type and the time system come before those
-/// of the face.
+/// The clock that the numbers of its nine variables describe.
 fn clock_of(alloc: Global, numbers: &[List<Dec>]) -> Result<Clock, TableFault>
     requires { length numbers.now ≡ 9 }
-    ensures ok { IfOk result (λ table. ClockMade (clock_numbers numbers.now) (Ok table)) }
-    ensures err { IfErr result (λ fault. fault ≢ NoMemory → ClockMade (clock_numbers numbers.now) (Err fault)) }
+    ensures { ClockAnswers (clock_numbers numbers.now) result }
 {
-    let [data_type, time_system, n_fields, moduli, offsets, delim, starts, ends, coefficients] = numbers else {
-        unreachable!()
-    };
-    check_system(data_type.as_slice(), time_system.as_slice())?;
+    let lists = lists_of(numbers);
+    clock_by(alloc, &lists)
+}
+
+/// The numbers of each of a clock's variables.
+#[derive(Clone, Copy)]
+struct ClockLists<'a> {
+    data_type: &'a [Dec],
+    time_system: &'a [Dec],
+    n_fields: &'a [Dec],
+    moduli: &'a [Dec],
+    offsets: &'a [Dec],
+    delim: &'a [Dec],
+    starts: &'a [Dec],
+    ends: &'a [Dec],
+    coefficients: &'a [Dec],
+}
+
+/// The numbers of each variable, which stand in the order of the variables.
+fn lists_of(numbers: &[List<Dec>]) -> ClockLists
+    requires { length numbers.now ≡ 9 }
+    ensures { (v : OneVar) → by_var result v ≡ clock_numbers numbers.now v }
+{
+    ClockLists {
+        data_type: numbers[0].as_slice(),
+        time_system: numbers[1].as_slice(),
+        n_fields: numbers[2].as_slice(),
+        moduli: numbers[3].as_slice(),
+        offsets: numbers[4].as_slice(),
+        delim: numbers[5].as_slice(),
+        starts: numbers[6].as_slice(),
+        ends: numbers[7].as_slice(),
+        coefficients: numbers[8].as_slice(),
+    }
+}
+
+/// The clock. The faults of the data type and the time system come before those of the face.
+fn clock_by(alloc: Global, lists: &ClockLists) -> Result<Clock, TableFault>
+    ensures { ClockAnswers (by_var lists.now) result }
+{
+    check_system(lists.data_type, lists.time_system)?;
     let face = Face::from_parts(
         alloc,
-        n_fields.as_slice(),
-        moduli.as_slice(),
-        offsets.as_slice(),
-        delim.as_slice(),
-        starts.as_slice(),
-        ends.as_slice(),
+        lists.n_fields,
+        lists.moduli,
+        lists.offsets,
+        lists.delim,
+        lists.starts,
+        lists.ends,
     )?;
     let clock = Clock::from_parts(
         alloc,
         face,
-        data_type.as_slice(),
-        time_system.as_slice(),
-        coefficients.as_slice(),
+        lists.data_type,
+        lists.time_system,
+        lists.coefficients,
     )?;
     Ok(clock)
 }
