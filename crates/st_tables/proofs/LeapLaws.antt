@@ -11,6 +11,7 @@ use Rattle.st_scales.proofs.OneAnswer as constants
 use Rattle.st_scales.specs.Constants.{GiveConstants}
 use Rattle.st_scales.specs.declared.deltet.Deltet.{Deltet as Constants}
 use Rattle.st_scales.specs.declared.fault.DeltetFault.{DeltetFault}
+use Rattle.std.specs.Result.{IsErrAnd, IfErr}
 use Rattle.st_tables.specs.Tables.{LeapsMade, ConstantsMade}
 use Rattle.st_tables.specs.TablesMachine.{fault_of_leaps}
 use Rattle.st_tables.specs.declared.fault.TableFault.{TableFault}
@@ -146,3 +147,9 @@ module _ (delta_ta k eb m : List Dec) where
   constants_are_one (Err (Leaps f)) b g h = absurd g
   constants_are_one (Err (Clock f)) b g h = absurd g
   constants_are_one (Err NoMemory) b g h = absurd g
+
+-- an exit carries a fault of the constants on
+pub carried : {B : Type 0} (delta_ta k eb m : List Dec) (r : Result B TableFault) (fault : DeltetFault) → IsErrAnd r (λ x. x ≡ Deltet fault)
+    → GiveConstants delta_ta k eb m (Err fault) → IfErr r (λ f. f ≢ NoMemory → ConstantsMade delta_ta k eb m (Err f))
+carried delta_ta k eb m (Ok x) fault h g = tt
+carried delta_ta k eb m (Err f) fault h g = λ other. subst (λ (y : TableFault). ConstantsMade delta_ta k eb m (Err y)) (sym h) g

@@ -1,21 +1,22 @@
 -- The table of leap seconds, the constants and the clock that loaded kernels give.
-use Rattle.std.proofs.Common.{◌≡◌, ℕ, List, Result, Ok, Err, refl, sym, ◌∙◌, ap, subst}
+use Rattle.std.proofs.Common.{◌≡◌, ◌≢◌, ℕ, List, Result, Ok, Err, refl, sym, ◌∙◌, ap, subst}
 use Rattle.st_decimal.specs.declared.number.Dec.{Dec}
 use Rattle.st_leaps.specs.declared.pair.LeapPair.{LeapPair}
 use Rattle.st_scales.specs.declared.deltet.Deltet.{Deltet as Constants}
 use Rattle.st_clock.specs.Clock.{Clock as TheClock}
-use Rattle.st_clock.specs.Parts as parts
-use Rattle.st_ticks.specs.Variables as face
+use Rattle.std.specs.Result.{IsErrAnd, IfErr}
+use Rattle.st_ticks.specs.Rules.{AreKept}
+use Rattle.st_tables.specs.declared.fault.TableFault.TheVariants.{OutOfMemory}
 use Rattle.st_ticks.specs.declared.variable.ClockVar.{ClockVar}
 use Rattle.st_ticks.specs.declared.variable.ClockVar.TheVariants.{DataType, TimeSystem, NFields, Moduli, Offsets, Delim, Start, End, Coefficients}
 use Rattle.st_ticks.specs.declared.variable.Var.TheVariants as var
 use Rattle.st_tables.specs.Laws.{IsAlike, AreAlike, LeapsAreOne, ConstantsAreOne, ClockIsOne, LeapsByTheirOwn, ConstantsByTheirOwn, ClockByItsOwn}
-use Rattle.st_tables.specs.Tables.{LeapsMade, ConstantsMade, ClockMade}
-use Rattle.st_tables.specs.Variables.{Loaded, leap_vars, constant_vars, clock_vars, numbers_of}
+use Rattle.st_tables.specs.Tables.{ConstantsGive, LeapsMade, ConstantsMade, ClockMade}
+use Rattle.st_tables.specs.Variables.{Loaded, leap_vars, constant_vars, clock_vars, numbers_of, rules_of_all, Keeps}
 use Rattle.st_tables.specs.declared.fault.TableFault.{TableFault}
 use Rattle.st_tables.proofs.ClockLaws.{clock_is_one}
 use Rattle.st_tables.proofs.LeapLaws.{leaps_are_one, constants_are_one}
-use Rattle.st_tables.proofs.TableLaws.{one_table, table_along, same_numbers}
+use Rattle.st_tables.proofs.TableLaws.{one_table, table_along, same_numbers, fault_is_given}
 
 abbrev pub LeapsOf : Loaded → Result (List LeapPair) TableFault → Type 0
 LeapsOf loaded = LeapsMade (numbers_of loaded var.DeltaAt)
@@ -77,3 +78,10 @@ pub clock_own : ClockByItsOwn
 clock_own n one other answer same =
     table_along one other (clock_vars n) (ClockOf n one) (ClockOf n other) answer same
     (subst (λ (x : ClockVar → List Dec). ClockMade x answer) (nine_same n one other same))
+
+-- what the exits of making a table answer
+pub constants_fault : {B : Type 0} (loaded : Loaded) (r : Result B TableFault) (fault : TableFault) → IsErrAnd r (λ x. x ≡ fault)
+    → AreKept (Keeps loaded) (rules_of_all constant_vars) → (fault ≢ OutOfMemory → ConstantsOf loaded (Err fault)) → IfErr r (λ f. ConstantsGive loaded (Err f))
+constants_fault loaded (Ok x) fault h kept made = tt
+constants_fault loaded (Err f) fault h kept made =
+    subst (λ (y : TableFault). ConstantsGive loaded (Err y)) (sym h) (fault_is_given loaded constant_vars (ConstantsOf loaded) fault kept (λ v m. m) (λ v m. m) made)

@@ -1,18 +1,21 @@
 //! The constants of the scales that the loaded kernels give, and their numbers.
 
-ghost use Rattle.std.specs.Prelude.{◌≡◌, ◌≢◌, Ok, Err, Some, IfOk, IfErr, OnOk, OnErr, IsOk, IsTrue, ◌↔◌, option_map};
+ghost use Rattle.std.specs.Prelude.{◌≡◌, ◌≢◌, length, Ok, Err, Some, IfOk, IfErr, OnOk, OnErr, IsOk, IsTrue, ◌↔◌, option_map};
+ghost use Rattle.st_scales.specs.Constants.{GiveConstants};
 ghost use Rattle.st_ticks.specs.Rules.{AreKept};
 ghost use Rattle.st_ticks.specs.declared.variable.Var.TheVariants.{DeltaTa as OfTt, K as OfK, Eb as OfEb, M as OfM};
 ghost use Rattle.st_tables.specs.Tables.{ConstantsGive, ConstantsMade};
 ghost use Rattle.st_tables.specs.KeptSteps.{AreConstants};
+ghost use Rattle.st_tables.specs.TablesMachine.{list_at};
 ghost use Rattle.st_tables.specs.Variables.{Keeps, all_numbers, constant_vars, numbers_of, rules_of_all};
 ghost use Rattle.st_tables.specs.declared.fault.TableFault.TheVariants.{OutOfMemory as NoMemory};
 
 use crate::fault::TableFault;
 use crate::kinds::first_refused;
 use crate::numbers::{Numbers, are_given, read_numbers};
+use st_decimal::{Dec, List};
 use st_pool::Pool;
-use st_scales::Deltet;
+use st_scales::{Deltet, DeltetFault};
 use st_ticks::Var;
 use std::alloc::Global;
 use std::marker::Model;
@@ -94,14 +97,19 @@ fn make(alloc: Global, pool: &Pool) -> Result<KeptConstants, TableFault>
     ensures err { IfErr result (λ fault. fault ≢ NoMemory → ConstantsMade (numbers_of pool.now OfTt) (numbers_of pool.now OfK) (numbers_of pool.now OfEb) (numbers_of pool.now OfM) (Err fault)) }
 {
     let numbers = read_numbers(alloc, pool, &VARS)?;
-    let [delta_ta, k, eb, m] = numbers.as_slice() else {
-        unreachable!()
-    };
-    let table = Deltet::from_numbers(
-        delta_ta.as_slice(),
-        k.as_slice(),
-        eb.as_slice(),
-        m.as_slice(),
-    )?;
+    let table = constants_of(numbers.as_slice())?;
     Ok(KeptConstants { numbers, table })
+}
+
+/// The constants that the numbers of their four variables spell.
+fn constants_of(numbers: &[List<Dec>]) -> Result<Deltet, DeltetFault>
+    requires { length numbers.now ≡ 4 }
+    ensures { GiveConstants (list_at numbers.now 0) (list_at numbers.now 1) (list_at numbers.now 2) (list_at numbers.now 3) result }
+{
+    Deltet::from_numbers(
+        numbers[0].as_slice(),
+        numbers[1].as_slice(),
+        numbers[2].as_slice(),
+        numbers[3].as_slice(),
+    )
 }
