@@ -153,9 +153,10 @@ records_exit n scale f OutOfMemory g m h other = absurd (other refl)
 pub found : (n : Numbers) (f : Face) (c : Clock) → MakesFace (face_numbers n) (Ok f) → GivesClock f (n DataType) (n TimeSystem) (n Coefficients) (Ok c)
     → ClockMade n (Ok c)
 found n f c m g =
-    let same = sym g.1.0 in
-    (subst (λ (x : Face). MakesFace (face_numbers n) (Ok x)) same m,
-    subst (λ (x : Face). GivesClock x (n DataType) (n TimeSystem) (n Coefficients) (Ok c)) same g)
+    let same = sym g.1.0 in (
+      subst (λ (x : Face). MakesFace (face_numbers n) (Ok x)) same m,
+      subst (λ (x : Face). GivesClock x (n DataType) (n TimeSystem) (n Coefficients) (Ok c)) same g,
+    )
 
 -- the same numbers give the same
 pub same_answers : (n m : Numbers) (r : Result Clock TableFault) → ((v : ClockVar) → n v ≡ m v) → ClockAnswers n r → ClockAnswers m r

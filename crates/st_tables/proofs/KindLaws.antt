@@ -53,7 +53,7 @@ other_kind b c e h f = h (sym e ∙ f)
 pub numbers_keep : (loaded : Loaded) (var : Var) → KindIs loaded var Numbers → AreKept (Keeps loaded) (rules_of var)
 numbers_keep loaded var e =
     let kept : AreKept (Keeps loaded) (both_of var) =
-        (other_kind Numbers Absent e (λ f. absurd cc), ((other_kind Numbers Texts e (λ f. absurd cc), other_kind Numbers Mixed e (λ f. absurd cc)), tt)) in
+    (other_kind Numbers Absent e (λ f. absurd cc), ((other_kind Numbers Texts e (λ f. absurd cc), other_kind Numbers Mixed e (λ f. absurd cc)), tt)) in
     elim (rules_form var) [
       | inl form ↦ subst (λ (rules : List TableFault). AreKept (Keeps loaded) rules) (sym form) kept
       | inr form ↦ subst (λ (rules : List TableFault). AreKept (Keeps loaded) rules) (sym form) kept.1

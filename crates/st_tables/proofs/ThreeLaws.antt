@@ -54,10 +54,10 @@ constants_own one other answer same =
     let d = same_numbers one other var.M same.1.1.1.0 in
     table_along one other constant_vars (ConstantsOf one) (ConstantsOf other) answer same
     (λ h.
-      subst (λ (x : List Dec). ConstantsMade (numbers_of other var.DeltaTa) (numbers_of other var.K) (numbers_of other var.Eb) x answer) d
-      (subst (λ (x : List Dec). ConstantsMade (numbers_of other var.DeltaTa) (numbers_of other var.K) x (numbers_of one var.M) answer) c
-      (subst (λ (x : List Dec). ConstantsMade (numbers_of other var.DeltaTa) x (numbers_of one var.Eb) (numbers_of one var.M) answer) b
-      (subst (λ (x : List Dec). ConstantsMade x (numbers_of one var.K) (numbers_of one var.Eb) (numbers_of one var.M) answer) a h))))
+    subst (λ (x : List Dec). ConstantsMade (numbers_of other var.DeltaTa) (numbers_of other var.K) (numbers_of other var.Eb) x answer) d
+    (subst (λ (x : List Dec). ConstantsMade (numbers_of other var.DeltaTa) (numbers_of other var.K) x (numbers_of one var.M) answer) c
+    (subst (λ (x : List Dec). ConstantsMade (numbers_of other var.DeltaTa) x (numbers_of one var.Eb) (numbers_of one var.M) answer) b
+    (subst (λ (x : List Dec). ConstantsMade x (numbers_of one var.K) (numbers_of one var.Eb) (numbers_of one var.M) answer) a h))))
 
 -- the numbers of all nine variables are the same
 nine_same : (n : ℕ) (one other : Loaded) → AreAlike one other (clock_vars n) → of_clock n one ≡ of_clock n other

@@ -84,7 +84,12 @@ fn var(var: ClockVar, n: u32) -> Var
 }
 
 /// Keeps the clock of the loaded kernels and the id -n, in place of one of other numbers or of another id.
-pub fn keep(alloc: Global, kept: &mut Option<KeptClock>, pool: &Pool, n: u32) -> Result<(), TableFault>
+pub fn keep(
+    alloc: Global,
+    kept: &mut Option<KeptClock>,
+    pool: &Pool,
+    n: u32,
+) -> Result<(), TableFault>
     ensures kinds { OnOk result (AreKept (Keeps pool.now) (rules_of_all (vars_of n))) }
     ensures ok { OnOk result (option_map (λ k. k.0) kept.new ≡ Some (n, all_numbers pool.now (vars_of n))) }
     ensures err { OnErr result (kept.new ≡ kept.old) }

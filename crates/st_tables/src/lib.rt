@@ -13,6 +13,8 @@ mod leaps;
 mod name;
 mod numbers;
 mod tables;
+#[cfg(test)]
+mod tests;
 
 pub use fault::TableFault;
 pub use name::{Name, name_of, put_name};

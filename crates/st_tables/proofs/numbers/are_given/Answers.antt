@@ -9,8 +9,8 @@ returns-then-not-are_values c = (
   λ h. absurd (let t : false ≡ true = h in cc),
   λ e. absurd (one_other c.args.pool.now c.args.vars.now c.args.numbers.now c.loop-i.i _ c.index-numbers-i.result c.requires.kinds (omega arith)
       (λ f.
-        let t : false ≡ true = sym c.if-not-are_values.true ∙ c.are_values.ensures.1 (f ∙ ap (λ (l : List Dec). map Number l) (sym (c.as_slice.ensures ∙ c.index-numbers-i.is))) in
-        absurd cc) e),
+      let t : false ≡ true = sym c.if-not-are_values.true ∙ c.are_values.ensures.1 (f ∙ ap (λ (l : List Dec). map Number l) (sym (c.as_slice.ensures ∙ c.index-numbers-i.is))) in
+      absurd cc) e),
 )
 
 pub loop-i-preserved : goal.loop-i-preserved

@@ -9,8 +9,8 @@ pub returns-in_err-keep_clock : goal.returns-in_err-keep_clock
 returns-in_err-keep_clock c =
     let loaded = c.args.pool.now in
     let a = refused (λ x. x) (ClockGives c.args.n loaded) (HasClockOf c.args.n loaded c.args.self.now) c.args.self.now (with_clock c.args.n loaded c.args.self.now) (clock_one c.args.n loaded)
-        c.from_residual.result c.in_err-keep_clock.field-0.0 c.keep_clock.new.self c.from_residual.ensures.1 c.in_err-keep_clock.ensures.keep c.in_err-keep_clock.ensures.fault
-        c.in_err-keep_clock.ensures.no_memory in
+    c.from_residual.result c.in_err-keep_clock.field-0.0 c.keep_clock.new.self c.from_residual.ensures.1 c.in_err-keep_clock.ensures.keep c.in_err-keep_clock.ensures.fault
+    c.in_err-keep_clock.ensures.no_memory in
     ((refl, λ _. tt, a.keep), record { gives = a.gives; only = a.only; no_memory = a.no_memory; kept = tt })
 
 pub returns : goal.returns

@@ -9,8 +9,8 @@ pub returns-in_err-keep_constants : goal.returns-in_err-keep_constants
 returns-in_err-keep_constants c =
     let loaded = c.args.pool.now in
     let a = refused (λ x. x) (ConstantsGive loaded) (HasConstantsOf loaded c.args.self.now) c.args.self.now (with_constants loaded c.args.self.now) (constants_one loaded)
-        c.from_residual.result c.in_err-keep_constants.field-0.0 c.keep_constants.new.self c.from_residual.ensures.1 c.in_err-keep_constants.ensures.keep c.in_err-keep_constants.ensures.fault
-        c.in_err-keep_constants.ensures.no_memory in
+    c.from_residual.result c.in_err-keep_constants.field-0.0 c.keep_constants.new.self c.from_residual.ensures.1 c.in_err-keep_constants.ensures.keep c.in_err-keep_constants.ensures.fault
+    c.in_err-keep_constants.ensures.no_memory in
     ((refl, λ _. tt, a.keep), record { gives = a.gives; only = a.only; no_memory = a.no_memory; kept = tt })
 
 pub returns : goal.returns

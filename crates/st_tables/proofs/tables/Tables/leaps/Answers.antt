@@ -10,8 +10,8 @@ pub returns-in_err-keep_leaps : goal.returns-in_err-keep_leaps
 returns-in_err-keep_leaps c =
     let loaded = c.args.pool.now in
     let a = refused pairs_of (LeapsGive loaded) (HasLeapsOf loaded c.args.self.now) c.args.self.now (with_leaps loaded c.args.self.now) (leaps_one loaded)
-        c.from_residual.result c.in_err-keep_leaps.field-0.0 c.keep_leaps.new.self c.from_residual.ensures.1 c.in_err-keep_leaps.ensures.keep c.in_err-keep_leaps.ensures.fault
-        c.in_err-keep_leaps.ensures.no_memory in
+    c.from_residual.result c.in_err-keep_leaps.field-0.0 c.keep_leaps.new.self c.from_residual.ensures.1 c.in_err-keep_leaps.ensures.keep c.in_err-keep_leaps.ensures.fault
+    c.in_err-keep_leaps.ensures.no_memory in
     ((refl, λ _. tt, a.keep), record { gives = a.gives; only = a.only; no_memory = a.no_memory; kept = tt })
 
 pub returns : goal.returns
