@@ -1,5 +1,5 @@
 -- What a call of the tables answers, and what is kept after.
-use Rattle.std.proofs.Common.{◌≡◌, ℕ, List, Option, Some, Result, Ok, Err, IsOk, IfSome, refl, sym, ◌∙◌, ap, subst}
+use Rattle.std.proofs.Common.{◌≡◌, ℕ, List, Result, Ok, Err, IsOk, IfSome, refl, sym, subst}
 use Rattle.std.specs.Borrow.{Bor}
 use Rattle.std.specs.Result.{IsErrAnd}
 use Rattle.st_decimal.specs.declared.number.Dec.{Dec}
@@ -11,7 +11,6 @@ use Rattle.st_ticks.specs.declared.variable.ClockVar.{ClockVar}
 use Rattle.st_ticks.specs.declared.variable.Var.TheVariants as var
 use Rattle.st_tables.specs.Answers.{shown}
 use Rattle.st_tables.specs.Kept.{Kept, Keep, with_leaps, with_constants, with_clock}
-use Rattle.st_tables.specs.KeptSteps.{AreLeaps, AreConstants, IsClock}
 use Rattle.st_tables.specs.Tables.{LeapsGive, ConstantsGive, ClockGives, LeapsMade, ConstantsMade, ClockMade, Agree}
 use Rattle.st_tables.specs.TablesMachine.{list_at, clock_numbers}
 use Rattle.st_tables.specs.Variables.{Loaded, Keeps, rules_of_all, leap_vars, constant_vars, clock_vars, all_numbers, numbers_of}

@@ -1,5 +1,5 @@
 -- The clock of nine variables, or their first fault: by the parts in which it is made, and that it is one.
-use Rattle.std.proofs.Common.{◌≡◌, ◌≢◌, ℕ, ◌⊎◌, inl, inr, List, [], ◌∷◌, ◌++◌, Result, Ok, Err, refl, sym, ◌∙◌, ap, subst}
+use Rattle.std.proofs.Common.{◌≡◌, ◌≢◌, ℕ, inl, inr, List, [], ◌++◌, Result, Ok, Err, refl, sym, ◌∙◌, ap, subst}
 use Rattle.st_decimal.specs.declared.number.Dec.{Dec}
 use Rattle.st_scales.specs.declared.scale.Scale.{Scale}
 use Rattle.st_clock.specs.Clock.{Clock}
@@ -25,7 +25,7 @@ use Rattle.st_tables.specs.TablesMachine.{fault_of_face, clock_numbers, list_at}
 use Rattle.st_tables.specs.Tables.{KeepsOfClock, clock_rules, face_numbers, ClockMade}
 use Rattle.st_tables.specs.declared.fault.TableFault.{TableFault}
 use Rattle.st_tables.specs.declared.fault.TableFault.TheVariants.{NoVariable, WrongKind, Leaps, Deltet, Clock as OfClock, OutOfMemory as NoMemory}
-use Rattle.st_tables.proofs.RuleLaws.{Alike, first_along, kept_along, kept_both, kept_front, kept_back, first_in_front, first_behind, first_of_rest}
+use Rattle.st_tables.proofs.RuleLaws.{Alike, first_along, kept_along, kept_both, first_in_front, first_behind, first_of_rest}
 
 abbrev pub Numbers : Type 0
 Numbers = ClockVar → List Dec

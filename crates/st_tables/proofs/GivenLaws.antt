@@ -1,6 +1,6 @@
 -- Whether the loaded kernels give some variables these numbers.
-use Rattle.std.proofs.Common.{◌≡◌, ◌≢◌, ℕ, ◌+◌, ◌<◌, ◌≤◌, ◌↔◌, zero, suc, Some, List, [], ◌∷◌, ◌++◌, length, take, drop, map, get_or, refl, sym, ap, ◌∙◌, subst, arith}
-use Rattle.std.proofs.lemmas.List.{take_more, length-map, take_all}
+use Rattle.std.proofs.Common.{◌≡◌, ℕ, ◌+◌, ◌<◌, ◌≤◌, zero, suc, Some, List, [], ◌∷◌, ◌++◌, length, take, map, get_or, refl, sym, ap, ◌∙◌, arith}
+use Rattle.std.proofs.lemmas.List.{take_more, take_all}
 use Rattle.std.proofs.lemmas.Option.{get_or_from_slice_get}
 use Rattle.std.specs.List.{slice_get}
 use Rattle.st_decimal.specs.declared.number.Dec.{Dec}
@@ -9,7 +9,6 @@ use Rattle.st_kernel_text.specs.declared.value.Value.TheVariants.{Number}
 use Rattle.st_pool.specs.Variable.{loaded_values}
 use Rattle.st_ticks.specs.Rules.{AreKept}
 use Rattle.st_ticks.specs.declared.variable.Var.{Var}
-use Rattle.st_ticks.specs.declared.variable.Var.TheVariants.{DeltaAt}
 use Rattle.st_tables.specs.Names.{var_name}
 use Rattle.st_tables.specs.Variables.{Loaded, Keeps, rules_of_all, numbers_of, all_numbers}
 use Rattle.st_tables.proofs.KindLaws.{kept_at}

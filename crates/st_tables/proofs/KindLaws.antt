@@ -1,6 +1,5 @@
 -- The rules of variables, by the kind of their values.
 use Rattle.std.proofs.Common.{◌≡◌, ◌≢◌, ℕ, ◌+◌, ◌<◌, ◌⊎◌, inl, inr, refl, sym, ap, ◌∙◌, subst, arith, suc, zero, List, [], ◌∷◌, ◌++◌, length, take, drop, get_or, MatchOption, Option, Some, None}
-use Rattle.std.specs.List.{flat_map}
 use Rattle.std.proofs.lemmas.Grind.{flat_map-append}
 use Rattle.std.proofs.lemmas.List.{take_more}
 use Rattle.st_ticks.proofs.RuleLaws.{split_at}

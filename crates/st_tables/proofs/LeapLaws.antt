@@ -1,8 +1,8 @@
 -- The table of leap seconds and the constants of numbers, or their first fault, are one.
-use Rattle.std.proofs.Common.{◌≡◌, ◌≢◌, ℕ, zero, suc, ◌+◌, ◌*◌, ◌<◌, ◌⊎◌, inl, inr, List, Result, Ok, Err, refl, sym, ◌∙◌, ap, subst, arith}
+use Rattle.std.proofs.Common.{◌≡◌, ◌≢◌, ℕ, zero, suc, ◌+◌, ◌*◌, ◌<◌, inl, inr, List, Result, Ok, Err, refl, sym, ◌∙◌, ap, subst, arith}
 use Rattle.st_decimal.specs.declared.number.Dec.{Dec}
 use Rattle.std.proofs.lemmas.Bool.{cases_lt}
-use Rattle.st_leaps.specs.Faults.{IsFirstFault, Agree, Gives, place_of}
+use Rattle.st_leaps.specs.Faults.{IsFirstFault, Gives, place_of}
 use Rattle.st_leaps.specs.declared.fault.LeapFault.{LeapFault}
 use Rattle.st_leaps.specs.declared.fault.LeapFault.TheVariants.{Empty, Odd, TooMany, NotWhole, NotMidnight, NotRising, BadStep, OutOfMemory}
 use Rattle.st_leaps.specs.declared.pair.LeapPair.{LeapPair}

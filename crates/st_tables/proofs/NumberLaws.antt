@@ -1,5 +1,5 @@
 -- The numbers among the values of a variable.
-use Rattle.std.proofs.Common.{◌≡◌, ◌≢◌, ℕ, ◌+◌, ◌<◌, ◌↔◌, Bool, true, false, cond, ◌||◌, Some, List, [], ◌∷◌, ◌++◌, length, take, drop, map, filter, refl, sym, ap, ◌∙◌, subst, arith, bytes_eq}
+use Rattle.std.proofs.Common.{◌≡◌, ◌≢◌, ℕ, ◌+◌, ◌<◌, Bool, true, false, cond, ◌||◌, Some, List, [], ◌∷◌, ◌++◌, length, take, map, filter, refl, sym, ap, ◌∙◌, subst, bytes_eq}
 use Rattle.std.proofs.lemmas.List.{take_more}
 use Rattle.std.proofs.lemmas.Option.{get_or_from_slice_get}
 use Rattle.std.specs.List.{slice_get, flat_map, list_any}
@@ -8,8 +8,7 @@ use Rattle.st_kernel_text.specs.declared.assignment.Assignment.{Assignment}
 use Rattle.st_kernel_text.specs.declared.value.Value.{Value}
 use Rattle.st_kernel_text.specs.declared.value.Value.TheVariants.{Number, Text}
 use Rattle.st_pool.specs.Loaded.{all_assignments}
-use Rattle.st_pool.specs.Variable.{is_of, is_number, is_text, kind_of, kind_of_values, values_of, since_last_set, loaded_values, loaded_kind}
-use Rattle.st_pool.specs.declared.kind.Kind.{Kind}
+use Rattle.st_pool.specs.Variable.{is_of, is_number, is_text, kind_of, kind_of_values, values_of, since_last_set, loaded_values}
 use Rattle.st_pool.specs.declared.kind.Kind.TheVariants.{Absent, Numbers, Texts, Mixed}
 use Rattle.st_ticks.specs.declared.variable.Var.{Var}
 use Rattle.st_tables.specs.declared.fault.TableFault.TheVariants.{WrongKind}

@@ -1,17 +1,14 @@
 -- Tables that loaded kernels give: one answer each, by their own variables alone.
-use Rattle.std.proofs.Common.{◌≡◌, ◌≢◌, ℕ, ◌⊎◌, inl, inr, List, [], ◌∷◌, ◌++◌, Result, Ok, Err, refl, sym, ◌∙◌, ap, subst}
-use Rattle.std.specs.List.{AllByRecursion}
-use Rattle.st_pool.specs.Variable.{loaded_kind}
+use Rattle.std.proofs.Common.{◌≡◌, ◌≢◌, ◌⊎◌, inl, inr, List, [], ◌∷◌, Result, Ok, Err, refl, sym, ◌∙◌, ap, subst}
 use Rattle.st_ticks.specs.Rules.{AreKept, IsFirstBroken}
 use Rattle.st_ticks.specs.declared.variable.Var.{Var}
 use Rattle.st_ticks.proofs.FirstLaws.{first_is_one, none_broken}
 use Rattle.st_tables.specs.Laws.{IsAlike, AreAlike}
-use Rattle.st_tables.specs.Names.{var_name}
 use Rattle.st_tables.specs.Tables.{TableGives, Agree}
 use Rattle.st_tables.specs.Variables.{Loaded, Keeps, rules_of, rules_of_all, numbers_in, numbers_of}
 use Rattle.st_tables.specs.declared.fault.TableFault.{TableFault}
 use Rattle.st_tables.specs.declared.fault.TableFault.TheVariants.{NoVariable, WrongKind, Leaps, Deltet, Clock, OutOfMemory}
-use Rattle.st_tables.proofs.KindLaws.{rules_form, both_of, kind_alone}
+use Rattle.st_tables.proofs.KindLaws.{rules_form}
 use Rattle.st_tables.proofs.RuleLaws.{Alike, alike_both, first_along, kept_along}
 
 module _ {A : Type 0} where

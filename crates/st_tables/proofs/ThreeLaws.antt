@@ -1,5 +1,5 @@
 -- The table of leap seconds, the constants and the clock that loaded kernels give.
-use Rattle.std.proofs.Common.{◌≡◌, ◌≢◌, ℕ, List, Result, Ok, Err, refl, sym, ◌∙◌, ap, subst}
+use Rattle.std.proofs.Common.{◌≡◌, ◌≢◌, ℕ, List, Result, Ok, Err, sym, subst}
 use Rattle.st_decimal.specs.declared.number.Dec.{Dec}
 use Rattle.st_leaps.specs.declared.pair.LeapPair.{LeapPair}
 use Rattle.st_scales.specs.declared.deltet.Deltet.{Deltet as Constants}
@@ -10,7 +10,7 @@ use Rattle.st_tables.specs.declared.fault.TableFault.TheVariants.{OutOfMemory}
 use Rattle.st_ticks.specs.declared.variable.ClockVar.{ClockVar}
 use Rattle.st_ticks.specs.declared.variable.ClockVar.TheVariants.{DataType, TimeSystem, NFields, Moduli, Offsets, Delim, Start, End, Coefficients}
 use Rattle.st_ticks.specs.declared.variable.Var.TheVariants as var
-use Rattle.st_tables.specs.Laws.{IsAlike, AreAlike, LeapsAreOne, ConstantsAreOne, ClockIsOne, LeapsByTheirOwn, ConstantsByTheirOwn, ClockByItsOwn}
+use Rattle.st_tables.specs.Laws.{AreAlike, LeapsAreOne, ConstantsAreOne, ClockIsOne, LeapsByTheirOwn, ConstantsByTheirOwn, ClockByItsOwn}
 use Rattle.st_tables.specs.Tables.{ConstantsGive, LeapsMade, ConstantsMade, ClockMade}
 use Rattle.st_tables.specs.Variables.{Loaded, leap_vars, constant_vars, clock_vars, numbers_of, rules_of_all, Keeps}
 use Rattle.st_tables.specs.declared.fault.TableFault.{TableFault}

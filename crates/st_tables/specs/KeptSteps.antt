@@ -1,5 +1,5 @@
 -- What is true of each kept table: it is the table of the numbers that are kept with it.
-use Rattle.std.specs.Prelude.{◌≡◌, ℕ, List, length, Ok}
+use Rattle.std.specs.Prelude.{◌≡◌, List, length, Ok}
 use Rattle.st_decimal.specs.declared.number.Dec.{Dec}
 use Rattle.st_leaps.specs.declared.pair.LeapPair.{LeapPair}
 use Rattle.st_scales.specs.declared.deltet.Deltet.{Deltet}

@@ -1,4 +1,4 @@
-use Rattle.std.proofs.Common.{ap, subst, List}
+use Rattle.std.proofs.Common.{subst, List}
 use Rattle.st_ticks.specs.Rules.{IsFirstBroken}
 use Rattle.st_ticks.specs.declared.variable.Var.{Var}
 use Rattle.st_tables.specs.Variables.{Keeps, clock_vars, rules_of_all}

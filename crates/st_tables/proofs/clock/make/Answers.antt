@@ -1,4 +1,4 @@
-use Rattle.std.proofs.Common.{◌≡◌, List, length, sym, ◌∙◌, ap, refl, subst, Ok, Err}
+use Rattle.std.proofs.Common.{List, length, ◌∙◌, ap, subst, Ok}
 use Rattle.st_decimal.specs.declared.number.Dec.{Dec}
 use Rattle.st_ticks.specs.declared.variable.ClockVar.{ClockVar}
 use Rattle.st_ticks.specs.declared.variable.Var.TheVariants.{Clock}

@@ -1,4 +1,4 @@
-use Rattle.std.proofs.Common.{◌≡◌, List, ◌∙◌, subst, Err}
+use Rattle.std.proofs.Common.{List, ◌∙◌, subst, Err}
 use Rattle.st_decimal.specs.declared.number.Dec.{Dec}
 use Rattle.st_scales.specs.Constants.{GiveConstants}
 use Rattle.st_ticks.specs.declared.variable.Var.TheVariants.{DeltaTa, K, Eb, M}

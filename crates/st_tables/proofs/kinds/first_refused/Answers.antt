@@ -1,6 +1,5 @@
 use Rattle.std.proofs.Common.{arith}
-use Rattle.st_ticks.specs.declared.variable.Var.TheVariants.{DeltaAt}
-use Rattle.st_tables.proofs.KindLaws.{one_kept, one_broken}
+use Rattle.st_tables.proofs.KindLaws.{one_broken}
 use Rattle.st_tables.proofs.kinds.first_refused.Goals as goal
 
 pub returns-in-Some : goal.returns-in-Some

@@ -1,4 +1,4 @@
-use Rattle.std.proofs.Common.{◌≡◌, ◌<◌, List, length, map, refl, sym, ap, ◌∙◌, arith, true, false}
+use Rattle.std.proofs.Common.{◌≡◌, List, map, sym, ap, ◌∙◌, arith, true, false}
 use Rattle.st_decimal.specs.declared.number.Dec.{Dec}
 use Rattle.st_kernel_text.specs.declared.value.Value.TheVariants.{Number}
 use Rattle.st_tables.proofs.GivenLaws.{one_given, one_other}

@@ -1,4 +1,4 @@
-use Rattle.std.proofs.Common.{◌≡◌, ◌<◌, length, refl, sym, ap, ◌∙◌, arith, Some}
+use Rattle.std.proofs.Common.{sym, ◌∙◌, arith}
 use Rattle.st_tables.proofs.GivenLaws.{one_value}
 use Rattle.st_tables.proofs.numbers.are_values.Goals as goal
 

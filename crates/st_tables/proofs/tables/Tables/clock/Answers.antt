@@ -1,4 +1,4 @@
-use Rattle.std.proofs.Common.{refl, Ok, Err}
+use Rattle.std.proofs.Common.{refl, Ok}
 use Rattle.st_tables.specs.Kept.{HasClockOf, with_clock}
 use Rattle.st_tables.specs.Tables.{ClockGives}
 use Rattle.st_tables.proofs.AnswerLaws.{refused, clock_found}

@@ -1,4 +1,4 @@
-use Rattle.std.proofs.Common.{refl, Ok, Err}
+use Rattle.std.proofs.Common.{refl, Ok}
 use Rattle.st_tables.specs.Kept.{HasConstantsOf, with_constants}
 use Rattle.st_tables.specs.Tables.{ConstantsGive}
 use Rattle.st_tables.proofs.AnswerLaws.{refused, constants_found}

@@ -1,4 +1,4 @@
-use Rattle.std.proofs.Common.{refl, Ok, Err}
+use Rattle.std.proofs.Common.{refl, Ok}
 use Rattle.st_leaps.specs.OfTable.{pairs_of}
 use Rattle.st_tables.specs.Kept.{HasLeapsOf, with_leaps}
 use Rattle.st_tables.specs.Tables.{LeapsGive}
