@@ -1,5 +1,5 @@
 -- What the index has for a name, after a write.
-use Rattle.std.proofs.Common.{inl, inr, ◌≡◌, ℕ, zero, suc, ◌+◌, ◌<◌, length, get_or, map, take, drop, set, Bool, true, false, bytes_eq, cond, Option, None, Some, slice_get, List, [], ◌∷◌, ◌++◌, Result, Ok, Err, OnErr, refl, sym, ap, ◌∙◌, arith}
+use Rattle.std.proofs.Common.{inl, inr, ◌≡◌, ℕ, zero, suc, length, get_or, map, set, Bool, true, false, bytes_eq, cond, Option, None, Some, slice_get, List, [], ◌∷◌, Result, Ok, Err, OnErr, refl, sym, ap, ◌∙◌}
 use Rattle.std.specs.Global.{Vec}
 use Rattle.std.specs.HashMap.{HashMap}
 use Rattle.std.specs.Map.{lookup, set_value, values_of}

@@ -1,15 +1,12 @@
 -- The assignments that stand at the places of a name are those of the name.
-use Rattle.std.proofs.Common.{inl, inr, ◌≡◌, ◌<◌, ◌≤◌, ◌↔◌, ℕ, zero, suc, ◌+◌, length, get_or, drop, map, filter, filter_map, flat_map, Bool, true, false, ◌||◌, cond, bytes_eq, Option, None, Some, option_and_then, slice_get, List, [], ◌∷◌, ◌++◌, refl, sym, ap, ◌∙◌, arith}
-use Rattle.std.specs.List.{list_any, enumerate_from, cons_option, sum_by}
-use Rattle.std.proofs.lemmas.Grind.{flat_map-append}
-use Rattle.std.proofs.lemmas.List.{drop_more}
+use Rattle.std.proofs.Common.{◌≡◌, ◌≤◌, ◌↔◌, ℕ, zero, suc, ◌+◌, length, drop, map, filter, Bool, true, false, ◌||◌, cond, Option, Some, option_and_then, slice_get, List, [], ◌∷◌, ◌++◌, refl, sym, ap, ◌∙◌, arith}
+use Rattle.std.specs.List.{list_any, enumerate_from, cons_option}
 use Rattle.std.proofs.lemmas.List.Elements.{filter-append, filter_map-append}
 use Rattle.std.proofs.lemmas.List.Folds.{list_any-append}
 use Rattle.std.proofs.lemmas.List.Sums.{sum_by-append, sum_by-cons}
 use Rattle.st_kernel_text.specs.declared.assignment.Assignment.{Assignment}
 use Rattle.st_kernel_text.specs.declared.value.Value.{Value}
 use Rattle.st_pool.specs.declared.kernel.Kernel.{Kernel}
-use Rattle.st_pool.specs.declared.kind.Kind.{Kind}
 use Rattle.st_pool.specs.declared.kind.Kind.TheVariants.{Absent, Numbers, Texts, Mixed}
 use Rattle.st_pool.specs.declared.place.Place.{Place}
 use Rattle.st_pool.specs.IndexMachine.{assignment_at, assignments_at}

@@ -11,8 +11,8 @@ use st_decimal::OutOfMemory;
 use st_kernel_text::Assignment;
 use std::alloc::{AllocError, Global};
 
-/// The places of the assignments of each variable, in order, by its name. A name whose assignments
-/// have all gone may stand here with no place.
+/// The places of the assignments of each variable, in order, found by the hash of its name. A name
+/// may stand here with no place, once its assignments have gone.
 #[derive(Debug, Drop)]
 pub struct Index {
     lists: IndexMap<Vec<u8>, Vec<Place>>,
@@ -51,6 +51,7 @@ impl Index {
         ensures refused { OnErr result ((name : List ℕ) → without kernel (kept_places name self.new.lists)
             ≡ without kernel (kept_places name self.old.lists)) }
     {
+        // A place numbers its assignment in 32 bits.
         if assignments.len() > u32::MAX as usize {
             return Err(AllocError);
         }

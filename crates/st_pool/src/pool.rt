@@ -166,7 +166,8 @@ impl Pool {
         find(self.kernels.as_slice(), self.index.places(name), i).value
     }
 
-    /// The places of all assignments of a variable, in order; none exactly where it is absent.
+    /// The places of all assignments of a variable, in order, as a slice that the pool keeps. It is
+    /// empty exactly where the variable is absent.
     pub fn places(&self, name: &[u8]) -> &[Place]
         ensures places { result.now ≡ loaded_places name.now self.now }
         ensures absent { result.now ≡ [] ↔ loaded_kind name.now self.now ≡ Absent }

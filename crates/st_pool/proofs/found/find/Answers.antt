@@ -1,7 +1,5 @@
-use Rattle.std.proofs.Common.{ℕ, Option, List, drop, ap, sym, ◌∙◌, arith}
-use Rattle.std.proofs.lemmas.List.{drop_all}
+use Rattle.std.proofs.Common.{ℕ, Option, ap, arith}
 use Rattle.st_kernel_text.specs.declared.value.Value.{Value}
-use Rattle.st_pool.specs.IndexMachine.{assignments_at}
 use Rattle.st_pool.proofs.FoundLaws.{found-end}
 use Rattle.st_pool.proofs.found.find.Goals as goal
 

@@ -1,4 +1,4 @@
-use Rattle.std.proofs.Common.{◌∙◌, ap, set, arith}
+use Rattle.std.proofs.Common.{◌∙◌, ap, set}
 use Rattle.std.proofs.lemmas.List.Edits.{map_over_more}
 use Rattle.st_pool.specs.declared.place.Place.{Place}
 use Rattle.st_pool.specs.IndexMachine.{lowered}

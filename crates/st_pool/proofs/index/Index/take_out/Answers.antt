@@ -1,6 +1,6 @@
-use Rattle.std.proofs.Common.{◌≡◌, ◌∙◌, ◌++◌, ap, sym, set, map, take, drop, length, get_or, List, [], arith}
+use Rattle.std.proofs.Common.{◌∙◌, ◌++◌, ap, map, take, get_or, List, [], arith}
 use Rattle.std.proofs.lemmas.List.Edits.{map_over_more}
-use Rattle.std.proofs.lemmas.List.{append-nil, take_all, drop_all, length-map}
+use Rattle.std.proofs.lemmas.List.{append-nil, take_all, drop_all}
 use Rattle.st_pool.proofs.IndexLaws.{Row, rows, left, length-rows, rows-set, all-left, get_or-own}
 use Rattle.st_pool.proofs.index.Index.take_out.Goals as goal
 

@@ -1,6 +1,5 @@
-use Rattle.std.proofs.Common.{ℕ, List, length, ap, sym, ◌∙◌, arith}
+use Rattle.std.proofs.Common.{List, length, ap, sym, ◌∙◌, arith}
 use Rattle.st_kernel_text.specs.declared.value.Value.{Value}
-use Rattle.st_pool.specs.declared.kernel.Kernel.{Kernel}
 use Rattle.st_pool.specs.Loaded.{loaded_count}
 use Rattle.st_pool.specs.Places.{loaded_places}
 use Rattle.st_pool.specs.Variable.{loaded_values}

@@ -1,8 +1,5 @@
-use Rattle.std.proofs.Common.{◌≡◌, List, [], ap, ◌∙◌, subst, ◌↔◌}
-use Rattle.st_pool.specs.declared.kernel.Kernel.{Kernel}
-use Rattle.st_pool.specs.declared.kind.Kind.TheVariants.{Absent}
+use Rattle.std.proofs.Common.{ap, ◌∙◌}
 use Rattle.st_pool.specs.Places.{loaded_places}
-use Rattle.st_pool.specs.Variable.{loaded_kind}
 use Rattle.st_pool.proofs.StandingLaws.{absent}
 use Rattle.st_pool.proofs.pool.Pool.places.Goals as goal
 

@@ -1,8 +1,7 @@
-use Rattle.std.proofs.Common.{rules, ◌≡◌, ◌≤◌, ◌↔◌, ℕ, List, length, slice_get, option_copied, IsNone, Option, ap, sym, ◌∙◌, arith}
+use Rattle.std.proofs.Common.{List, slice_get, ap, sym, ◌∙◌, arith}
 use Rattle.std.proofs.lemmas.Grind.{common_steps}
 use Rattle.std.proofs.lemmas.Option.{gets}
 use Rattle.st_kernel_text.specs.declared.value.Value.{Value}
-use Rattle.st_pool.specs.declared.kernel.Kernel.{Kernel}
 use Rattle.st_pool.specs.Loaded.{loaded_count}
 use Rattle.st_pool.specs.Places.{loaded_places}
 use Rattle.st_pool.specs.Variable.{loaded_values}
