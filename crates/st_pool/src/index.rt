@@ -1,6 +1,6 @@
 //! The index of the loaded assignments by the names of their variables.
 
-ghost use Rattle.std.specs.Prelude.{◌≡◌, ◌<◌, ◌^◌, ℕ, List, [], ◌∷◌, ◌++◌, false, bytes_eq, length, OnOk, OnErr, map};
+ghost use Rattle.std.specs.Prelude.{◌≡◌, ℕ, List, [], ◌∷◌, ◌++◌, false, bytes_eq, map, OnOk, OnErr};
 ghost use Rattle.st_pool.specs.Places.{places_in};
 ghost use Rattle.st_pool.specs.IndexMachine.{kept_places, without};
 ghost use Rattle.st_pool.specs.IndexMachine as machine;
