@@ -8,6 +8,8 @@ use Rattle.st_kernel_text.specs.declared.value.Value.{Value}
 use Rattle.st_kernel_text.specs.declared.value.Value.TheVariants.{Number, Text}
 use Rattle.st_pool.specs.declared.kernel.Kernel.{Kernel}
 use Rattle.st_pool.specs.declared.kind.Kind.TheVariants.{Absent, Numbers, Texts, Mixed}
+use Rattle.st_pool.specs.declared.place.Place.{Place}
+use Rattle.st_pool.specs.Places.{loaded_places}
 use Rattle.st_pool.specs.Loaded.{is_loaded, without_last, loaded_count}
 use Rattle.st_pool.specs.Variable.{loaded_values, loaded_kind}
 
@@ -73,3 +75,22 @@ texts = refl
 mixed : loaded_kind (codes "Y") (first ∷ (second ∷ [])) ≡ Mixed
 unfolding first second assigned number text
 mixed = refl
+
+place : ℕ → ℕ → Place
+place k a = record { kernel = k; assignment = a }
+
+places : loaded_places (codes "X") (first ∷ (second ∷ (third ∷ []))) ≡ place 0 0 ∷ (place 1 0 ∷ (place 2 0 ∷ (place 2 1 ∷ [])))
+unfolding first second third assigned place
+places = refl
+
+later-places : loaded_places (codes "X") (without_last (codes "b") (first ∷ (second ∷ (third ∷ [])))) ≡ place 0 0 ∷ (place 1 0 ∷ (place 1 1 ∷ []))
+unfolding first second third assigned place
+later-places = refl
+
+second-places : loaded_places (codes "Y") (first ∷ (second ∷ (third ∷ []))) ≡ place 0 1 ∷ (place 1 1 ∷ [])
+unfolding first second third assigned place
+second-places = refl
+
+no-places : loaded_places (codes "Z") (first ∷ (second ∷ (third ∷ []))) ≡ []
+unfolding first second third assigned
+no-places = refl

@@ -1,14 +1,14 @@
--- The count of a variable's values, and the value at a place, by going over the assignments.
-use Rattle.std.proofs.Common.{inl, inr, ◌≡◌, ◌≤◌, ◌<◌, ℕ, zero, suc, ◌+◌, ◌-◌, length, get_or, drop, ltb, Bool, true, false, cond, Option, None, slice_get, bytes_eq, List, [], ◌∷◌, ◌++◌, refl, sym, ap, ◌∙◌, arith}
+-- The count of a variable's values, and the value at a place, by going over its assignments.
+use Rattle.std.proofs.Common.{inl, inr, ◌≡◌, ◌≤◌, ◌<◌, ℕ, zero, suc, ◌+◌, ◌-◌, length, drop, ltb, Bool, true, false, cond, Option, None, slice_get, List, [], ◌∷◌, ◌++◌, refl, sym, ap, ◌∙◌, arith}
 use Rattle.std.proofs.lemmas.Bool.{cases_Bool, cond-true, cond-false, ltb-true, ltb-false}
-use Rattle.std.proofs.lemmas.List.{append-nil, append_assoc, length-append, drop_more, drop_all}
-use Rattle.std.proofs.lemmas.List.Sums.{sum_by-drop_more}
+use Rattle.std.proofs.lemmas.List.{append-nil, append_assoc, length-append, drop_all}
 use Rattle.st_kernel_text.specs.declared.assignment.Assignment.{Assignment}
 use Rattle.st_kernel_text.specs.declared.value.Value.{Value}
 use Rattle.st_pool.specs.declared.kernel.Kernel.{Kernel}
-use Rattle.st_pool.specs.Loaded.{all_assignments, value_count, loaded_count}
-use Rattle.st_pool.specs.PoolMachine.{value_at, found_after, found_in}
-use Rattle.st_pool.specs.Variable.{is_set, values_of}
+use Rattle.st_pool.specs.declared.place.Place.{Place}
+use Rattle.st_pool.specs.IndexMachine.{assignments_at}
+use Rattle.st_pool.specs.PoolMachine.{value_at, values_by, found_after, found_in}
+use Rattle.st_pool.specs.Variable.{is_set}
 use Rattle.st_pool.proofs.VariableLaws.{values-last}
 
 get_within : (xs ys : List Value) (i : ℕ) → i < length xs → slice_get (xs ++ ys) i ≡ slice_get xs i
@@ -35,53 +35,29 @@ pair-append : (i : ℕ) (xs ys : List Value) → (length xs + length ys, value_a
 pair-append i xs ys =
     ap (λ (v : Option Value). (length xs + length ys, v)) (value-append i xs ys) ∙ ap (λ (n : ℕ). (n, slice_get (xs ++ ys) i)) (sym (length-append xs ys))
 
-step : (name : List ℕ) (i : ℕ) (front : List Assignment) (a : Assignment)
-    → found_after name i (found_of i (values_of name front)) a ≡ found_of i (values_of name (front ++ a ∷ []))
-step name i front a = by (bytes_eq a.name name) (is_set a) (values_of name front) ∙ sym (ap (found_of i) (values-last name front a))
+step : (i : ℕ) (front : List Assignment) (a : Assignment) → found_after i (found_of i (values_by front)) a ≡ found_of i (values_by (front ++ a ∷ []))
+step i front a = by (is_set a) (values_by front) ∙ sym (ap (found_of i) (values-last front a))
   where
-    by : (b c : Bool) (values : List Value)
-        → cond b (cond c (length a.values, slice_get a.values i) (length values + length a.values, value_at i (found_of i values) a.values)) (found_of i values)
-        ≡ found_of i (cond b (cond c a.values (values ++ a.values)) values)
-    by true true values = refl
-    by true false values = pair-append i values a.values
-    by false c values = refl
+    by : (b : Bool) (values : List Value)
+        → cond b (length a.values, slice_get a.values i) (length values + length a.values, value_at i (found_of i values) a.values)
+        ≡ found_of i (cond b a.values (values ++ a.values))
+    by true values = refl
+    by false values = pair-append i values a.values
 
-steps : (name : List ℕ) (i : ℕ) (front more : List Assignment)
-    → found_in name i (found_of i (values_of name front)) more ≡ found_of i (values_of name (front ++ more))
-steps name i front [] = ap (λ (l : List Assignment). found_of i (values_of name l)) (sym (append-nil front))
-steps name i front (a ∷ more) =
-    ap (λ (f : ℕ × Option Value). found_in name i f more) (step name i front a)
-    ∙ steps name i (front ++ a ∷ []) more
-    ∙ ap (λ (l : List Assignment). found_of i (values_of name l)) (append_assoc front (a ∷ []) more)
+steps : (i : ℕ) (front more : List Assignment) → found_in i (found_of i (values_by front)) more ≡ found_of i (values_by (front ++ more))
+steps i front [] = ap (λ (l : List Assignment). found_of i (values_by l)) (sym (append-nil front))
+steps i front (a ∷ more) =
+    ap (λ (f : ℕ × Option Value). found_in i f more) (step i front a)
+    ∙ steps i (front ++ a ∷ []) more
+    ∙ ap (λ (l : List Assignment). found_of i (values_by l)) (append_assoc front (a ∷ []) more)
 
 -- all assignments: what is found is what the values have
-pub found-all : (name : List ℕ) (i : ℕ) (assignments : List Assignment)
-    → found_in name i (0, None) assignments ≡ (length (values_of name assignments), slice_get (values_of name assignments) i)
-found-all name i assignments = steps name i [] assignments
+pub found-all : (i : ℕ) (assignments : List Assignment) → found_in i (0, None) assignments ≡ (length (values_by assignments), slice_get (values_by assignments) i)
+found-all i assignments = steps i [] assignments
 
--- some assignments and then some more
-pub found-append : (name : List ℕ) (i : ℕ) (before : ℕ × Option Value) (front more : List Assignment)
-    → found_in name i before (front ++ more) ≡ found_in name i (found_in name i before front) more
-found-append name i before [] more = refl
-found-append name i before (a ∷ front) more = found-append name i (found_after name i before a) front more
-
--- one more kernel of the list
-pub found-step : (name : List ℕ) (i : ℕ) (kernels : List Kernel) (n : ℕ) (k : Kernel) (before : ℕ × Option Value) → n < length kernels → k ≡ get_or kernels n k
-    → found_in name i before (all_assignments (drop n kernels)) ≡ found_in name i (found_in name i before k.assignments) (all_assignments (drop (n + 1) kernels))
-found-step name i kernels n k before l is =
-    ap (λ (ks : List Kernel). found_in name i before (all_assignments ks))
-    (drop_more kernels n k l ∙ ap (λ (x : Kernel). x ∷ drop (n + 1) kernels) (sym is))
-    ∙ found-append name i before k.assignments (all_assignments (drop (n + 1) kernels))
-
-pub count-step : (kernels : List Kernel) (n : ℕ) (k : Kernel) → n < length kernels → k ≡ get_or kernels n k
-    → loaded_count (drop n kernels) ≡ value_count k.assignments + loaded_count (drop (n + 1) kernels)
-count-step kernels n k l is =
-    sum_by-drop_more (λ (x : Kernel). value_count x.assignments) kernels n k l
-    ∙ ap (λ (x : Kernel). value_count x.assignments + loaded_count (drop (n + 1) kernels)) (sym is)
-
--- the end of the list
-pub found-end : (name : List ℕ) (i : ℕ) (kernels : List Kernel) (n : ℕ) (found : ℕ × Option Value) → length kernels ≤ n
-    → found_in name i found (all_assignments (drop n kernels)) ≡ found_in name i (0, None) (all_assignments kernels)
-    → found ≡ (length (values_of name (all_assignments kernels)), slice_get (values_of name (all_assignments kernels)) i)
-found-end name i kernels n found l is =
-    sym (ap (λ (ks : List Kernel). found_in name i found (all_assignments ks)) (drop_all n kernels l)) ∙ is ∙ found-all name i (all_assignments kernels)
+-- the end of the places
+pub found-end : (kernels : List Kernel) (places : List Place) (i n : ℕ) (found : ℕ × Option Value) → length places ≤ n
+    → found_in i found (assignments_at kernels (drop n places)) ≡ found_in i (0, None) (assignments_at kernels places)
+    → found ≡ (length (values_by (assignments_at kernels places)), slice_get (values_by (assignments_at kernels places)) i)
+found-end kernels places i n found l is =
+    sym (ap (λ (ps : List Place). found_in i found (assignments_at kernels ps)) (drop_all n places l)) ∙ is ∙ found-all i (assignments_at kernels places)

@@ -1,12 +1,13 @@
-//! The values of a variable, found by going over all assignments of its name.
+//! The values of a variable, found by going over the places of its assignments.
 
 ghost use Rattle.std.specs.Prelude.{◌≡◌, ◌≤◌, ◌+◌, length, slice_get, option_copied};
 ghost use Rattle.st_pool.specs.Limits.{most_values};
-ghost use Rattle.st_pool.specs.Loaded.{value_count, loaded_count};
-ghost use Rattle.st_pool.specs.Variable.{loaded_values};
+ghost use Rattle.st_pool.specs.Loaded.{value_count};
+ghost use Rattle.st_pool.specs.IndexMachine.{assignment_at as at_place, assignments_at};
 ghost use Rattle.st_pool.specs.PoolMachine as machine;
 
 use crate::kernel::Kernel;
+use crate::place::Place;
 use st_kernel_text::{Assignment, Mode, Value};
 
 /// What is found of a variable by the assignments so far.
@@ -18,48 +19,40 @@ pub struct Found<'a> {
     pub value: Option<&'a Value>,
 }
 
-/// How many values the variable of this name has, and its value at place i.
-pub fn find<'a>(kernels: &'a [Kernel], name: &[u8], i: usize) -> Found<'a>
-    requires { loaded_count kernels.now ≤ most_values }
-    ensures count { result.count ≡ length (loaded_values name.now kernels.now) }
-    ensures value { option_copied result.value ≡ slice_get (loaded_values name.now kernels.now) i }
+/// How many values the assignments at these places give their variable, and its i-th value.
+pub fn find<'a>(kernels: &'a [Kernel], places: &[Place], i: usize) -> Found<'a>
+    requires { value_count (assignments_at kernels.now places.now) ≤ most_values }
+    ensures count { result.count ≡ length (machine.values_by (assignments_at kernels.now places.now)) }
+    ensures value { option_copied result.value
+        ≡ slice_get (machine.values_by (assignments_at kernels.now places.now)) i }
 {
     let mut found = Found {
         count: 0,
         value: None,
     };
-    for kernel in kernels {
-        found = find_in(found, kernel.assignments.as_slice(), name, i);
+    for place in places {
+        if let Some(assignment) = assignment_at(kernels, *place) {
+            found = find_next(found, assignment, i);
+        }
     }
     found
 }
 
-/// What is found after some more assignments.
-fn find_in<'a>(before: Found<'a>, assignments: &'a [Assignment], name: &[u8], i: usize) -> Found<'a>
-    requires { before.count + value_count assignments.now ≤ most_values }
-    ensures found { (result.count, option_copied result.value)
-        ≡ machine.found_in name.now i
-        (before.entry.count, option_copied before.entry.value) assignments.now }
-    ensures most { result.count ≤ before.entry.count + value_count assignments.now }
+/// The assignment at a place.
+pub fn assignment_at(kernels: &[Kernel], place: Place) -> Option<&Assignment>
+    ensures { option_copied result ≡ at_place kernels.now place }
 {
-    let mut found = before;
-    for assignment in assignments {
-        found = find_next(found, assignment, name, i);
-    }
-    found
+    let kernel = kernels.get(place.kernel as usize)?;
+    kernel.assignments.as_slice().get(place.assignment as usize)
 }
 
 /// What is found after one more assignment.
-fn find_next<'a>(before: Found<'a>, assignment: &'a Assignment, name: &[u8], i: usize) -> Found<'a>
+fn find_next<'a>(before: Found<'a>, assignment: &'a Assignment, i: usize) -> Found<'a>
     requires { before.count + length assignment.now.values ≤ most_values }
     ensures found { (result.count, option_copied result.value)
-        ≡ machine.found_after name.now i
-        (before.entry.count, option_copied before.entry.value) assignment.now }
+        ≡ machine.found_after i (before.entry.count, option_copied before.entry.value) assignment.now }
     ensures most { result.count ≤ before.entry.count + length assignment.now.values }
 {
-    if assignment.name.as_slice() != name {
-        return before;
-    }
     let values = assignment.values.as_slice();
     if assignment.mode == Mode::Set {
         return Found {

@@ -1,12 +1,15 @@
-//! The kinds of a variable's values, found by going over all assignments of its name.
+//! The kinds of a variable's values, found by going over the places of its assignments.
 
 ghost use Rattle.std.specs.Prelude.{◌≡◌};
 ghost use Rattle.std.specs.List.{list_any};
-ghost use Rattle.st_pool.specs.Variable.{loaded_kind, is_number, is_text};
+ghost use Rattle.st_pool.specs.IndexMachine.{assignments_at};
+ghost use Rattle.st_pool.specs.Variable.{is_number, is_text};
 ghost use Rattle.st_pool.specs.PoolMachine as machine;
 
+use crate::found::assignment_at;
 use crate::kernel::Kernel;
 use crate::kind::Kind;
+use crate::place::Place;
 use st_kernel_text::{Assignment, Mode, Value};
 
 /// What is known of a variable by the assignments so far.
@@ -20,17 +23,19 @@ pub struct Kinds {
     pub texts: bool,
 }
 
-/// Of which kind the values of the variable of this name are.
-pub fn kind_of(kernels: &[Kernel], name: &[u8]) -> Kind
-    ensures { result ≡ loaded_kind name.now kernels.now }
+/// Of which kind the values are that the assignments at these places give their variable.
+pub fn kind_of(kernels: &[Kernel], places: &[Place]) -> Kind
+    ensures { result ≡ machine.kind_at (assignments_at kernels.now places.now) }
 {
     let mut kinds = Kinds {
         present: false,
         numbers: false,
         texts: false,
     };
-    for kernel in kernels {
-        kinds = kinds_in(kinds, kernel.assignments.as_slice(), name);
+    for place in places {
+        if let Some(assignment) = assignment_at(kernels, *place) {
+            kinds = kinds_after(kinds, assignment);
+        }
     }
     kind_by(kinds)
 }
@@ -52,24 +57,10 @@ fn kind_by(kinds: Kinds) -> Kind
     }
 }
 
-/// What is known after some more assignments.
-fn kinds_in(before: Kinds, assignments: &[Assignment], name: &[u8]) -> Kinds
-    ensures { result ≡ machine.kinds_in name.now before assignments.now }
-{
-    let mut kinds = before;
-    for assignment in assignments {
-        kinds = kinds_after(kinds, assignment, name);
-    }
-    kinds
-}
-
 /// What is known after one more assignment.
-fn kinds_after(before: Kinds, assignment: &Assignment, name: &[u8]) -> Kinds
-    ensures { result ≡ machine.kinds_after name.now before assignment.now }
+fn kinds_after(before: Kinds, assignment: &Assignment) -> Kinds
+    ensures { result ≡ machine.kinds_after before assignment.now }
 {
-    if assignment.name.as_slice() != name {
-        return before;
-    }
     let numbers = has_number(assignment.values.as_slice());
     let texts = has_text(assignment.values.as_slice());
     if assignment.mode == Mode::Set {

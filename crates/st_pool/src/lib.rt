@@ -4,13 +4,18 @@
 mod counts;
 mod fault;
 mod found;
+mod index;
 mod kernel;
 mod kind;
 mod kinds;
-mod places;
+mod last;
+mod place;
 mod pool;
+#[cfg(test)]
+mod tests;
 
 pub use fault::{LoadFault, NotLoaded};
 pub use kernel::Kernel;
 pub use kind::Kind;
+pub use place::Place;
 pub use pool::Pool;

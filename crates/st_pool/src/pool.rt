@@ -1,18 +1,23 @@
 //! The loaded kernels.
 
-ghost use Rattle.std.specs.Prelude.{◌≡◌, ◌≤◌, ◌<◌, ◌+◌, ◌↔◌, [], ◌∷◌, ◌++◌, Ok, Err, length, slice_get, IsNone, IfSome, IsErr, Some, true, false, OnOk, OnErr, option_copied};
+ghost use Rattle.std.specs.Prelude.{◌≡◌, ◌≤◌, ◌<◌, ◌+◌, ◌↔◌, ℕ, List, [], ◌∷◌, ◌++◌, Ok, Err, length, slice_get, IsNone, IfSome, IsErr, Some, true, false, OnOk, OnErr, option_copied};
 ghost use Rattle.st_pool.specs.Limits.{most_kernels, most_values};
 ghost use Rattle.st_pool.specs.Loaded.{value_count, loaded_count, is_loaded, without_last};
 ghost use Rattle.st_pool.specs.Variable.{loaded_values, loaded_kind};
+ghost use Rattle.st_pool.specs.Places.{places_in, loaded_places};
+ghost use Rattle.st_pool.specs.IndexMachine.{kept_places, without};
+ghost use Rattle.st_pool.specs.declared.kind.Kind.TheVariants.{Absent};
 ghost use Rattle.st_pool.specs.declared.fault.LoadFault.TheVariants.{TooManyKernels, TooManyValues};
 
 use crate::counts::{room_after, value_count};
 use crate::fault::{LoadFault, NotLoaded};
 use crate::found::find;
+use crate::index::Index;
 use crate::kernel::Kernel;
 use crate::kind::Kind;
 use crate::kinds::kind_of;
-use crate::places::last_place;
+use crate::last::last_place;
+use crate::place::Place;
 use st_decimal::{KText, OutOfMemory};
 use st_kernel_text::{AssignmentList, Value};
 use std::alloc::Global;
@@ -30,21 +35,27 @@ const MAX_VALUES: usize = 2_000_000;
 #[derive(Debug, Drop)]
 pub struct Pool {
     kernels: Vec<Kernel>,
+    /// The places of the assignments of each variable.
+    index: Index,
     /// How many more values may be loaded.
     room: usize,
 }
 
 impl Model for Pool {
-    ghost use Rattle.std.specs.Prelude.{List, ◌≡◌, ◌+◌};
+    ghost use Rattle.std.specs.Prelude.{ℕ, List, length, ◌≡◌, ◌≤◌, ◌+◌};
     ghost use Rattle.st_pool.specs.declared.kernel.Kernel.{Kernel as Item};
-    ghost use Rattle.st_pool.specs.Limits.{most_values};
+    ghost use Rattle.st_pool.specs.IndexMachine.{kept_places};
+    ghost use Rattle.st_pool.specs.Limits.{most_kernels, most_values};
     ghost use Rattle.st_pool.specs.Loaded.{loaded_count};
+    ghost use Rattle.st_pool.specs.Places.{loaded_places};
 
     ghost Value = { List Item };
 
     ghost view = { λ p. p.kernels.items };
 
-    ghost invariant = { λ p. loaded_count p.kernels.items + p.room ≡ most_values };
+    ghost invariant = { λ p. (length p.kernels.items ≤ most_kernels)
+        × (loaded_count p.kernels.items + p.room ≡ most_values)
+        × ((name : List ℕ) → kept_places name p.index.lists ≡ loaded_places name p.kernels.items) };
 }
 
 impl Pool {
@@ -54,6 +65,7 @@ impl Pool {
     {
         Pool {
             kernels: Vec::new(alloc),
+            index: Index::new(alloc),
             room: MAX_VALUES,
         }
     }
@@ -78,7 +90,11 @@ impl Pool {
         let Some(room) = room_after(self.room, assignments.as_slice()) else {
             return Err(LoadFault::TooManyValues);
         };
-        append(&mut self.kernels, name, assignments)?;
+        let number = self.kernels.len() as u32;
+        if let Err(fault) = append(&mut self.kernels, &mut self.index, name, assignments) {
+            self.index.take_out(number);
+            return Err(fault.into());
+        }
         self.room = room;
         Ok(())
     }
@@ -97,6 +113,7 @@ impl Pool {
             return Err(NotLoaded);
         };
         let kernel = self.kernels.remove(place);
+        self.index.take_out(place as u32);
         self.room += value_count(kernel.assignments.as_slice());
         Ok(())
     }
@@ -106,6 +123,7 @@ impl Pool {
         ensures { self.new ≡ [] }
     {
         self.kernels.clear();
+        self.index.clear();
         self.room = MAX_VALUES;
     }
 
@@ -130,14 +148,14 @@ impl Pool {
     pub fn kind(&self, name: &[u8]) -> Kind
         ensures { result ≡ loaded_kind name.now self.now }
     {
-        kind_of(self.kernels.as_slice(), name)
+        kind_of(self.kernels.as_slice(), self.index.places(name))
     }
 
     /// How many values a variable has, 0 where it is absent.
     pub fn count(&self, name: &[u8]) -> usize
         ensures { result ≡ length (loaded_values name.now self.now) }
     {
-        find(self.kernels.as_slice(), name, 0).count
+        find(self.kernels.as_slice(), self.index.places(name), 0).count
     }
 
     /// The value of a variable at a place, from 0; none from the count on.
@@ -145,110 +163,40 @@ impl Pool {
         ensures value { option_copied result ≡ slice_get (loaded_values name.now self.now) i }
         ensures none { IsNone result ↔ (length (loaded_values name.now self.now) ≤ i) }
     {
-        find(self.kernels.as_slice(), name, i).value
+        find(self.kernels.as_slice(), self.index.places(name), i).value
+    }
+
+    /// The places of all assignments of a variable, in order, as a slice that the pool keeps. It is
+    /// empty exactly where the variable is absent.
+    pub fn places(&self, name: &[u8]) -> &[Place]
+        ensures places { result.now ≡ loaded_places name.now self.now }
+        ensures absent { result.now ≡ [] ↔ loaded_kind name.now self.now ≡ Absent }
+    {
+        self.index.places(name)
     }
 }
 
+/// Loads a kernel behind the others. Where memory is refused, some of its assignments may stand in
+/// the index.
 fn append(
     kernels: &mut Vec<Kernel>,
+    index: &mut Index,
     name: &[u8],
     assignments: AssignmentList,
 ) -> Result<(), OutOfMemory>
-    ensures ok { OnOk result (kernels.new.items
+    requires { length kernels.old.items < most_kernels }
+    ensures kernels { OnOk result (kernels.new.items
         ≡ kernels.old.items ++ record { name = name.now; assignments = assignments } ∷ []) }
-    ensures err { OnErr result (kernels.new.items ≡ kernels.old.items) }
+    ensures index { OnOk result ((q : List ℕ) → kept_places q index.new.lists
+        ≡ kept_places q index.old.lists ++ places_in q (length kernels.old.items) assignments) }
+    ensures refused { OnErr result (kernels.new.items ≡ kernels.old.items) }
+    ensures refused_index { OnErr result ((q : List ℕ) → without (length kernels.old.items) (kept_places q index.new.lists)
+        ≡ without (length kernels.old.items) (kept_places q index.old.lists)) }
 {
-    let name = KText::from_slice(*kernels.allocator(), name)?;
+    let alloc = *kernels.allocator();
+    let number = kernels.len() as u32;
+    let name = KText::from_slice(alloc, name)?;
+    index.add(alloc, number, assignments.as_slice())?;
     kernels.push(Kernel { name, assignments })?;
     Ok(())
-}
-
-#[cfg(test)]
-mod tests {
-    use super::*;
-    use st_decimal::Dec;
-    use st_kernel_text::{Assignment, Mode, ValueList};
-    use std::test::Fail;
-
-    /// One assignment of one value.
-    fn one(alloc: Global, name: &[u8], mode: Mode, value: Value) -> Result<AssignmentList, Fail> {
-        let mut values = ValueList::new(alloc);
-        values.push(value)?;
-        let mut list = AssignmentList::new(alloc);
-        list.push(Assignment {
-            name: KText::from_slice(alloc, name)?,
-            mode,
-            values,
-        })?;
-        Ok(list)
-    }
-
-    fn number(digits: i128) -> Value {
-        Value::Number(Dec { digits, tens: 0 })
-    }
-
-    fn digits_at(pool: &Pool, name: &[u8], i: usize) -> Option<i128> {
-        match pool.value(name, i) {
-            Some(Value::Number(number)) => Some(number.digits),
-            _ => None,
-        }
-    }
-
-    #[test]
-    fn keeps_kernels(rt: HostRuntime) -> Result<(), Fail> {
-        let alloc = rt.alloc();
-        let mut pool = Pool::new(alloc);
-        assert!(rt;
-            pool.load(b"a", one(alloc, b"X", Mode::Set, number(1))?)
-                .is_ok()
-        );
-        assert!(rt;
-            pool.load(b"b", one(alloc, b"X", Mode::Add, number(2))?)
-                .is_ok()
-        );
-        assert!(rt;
-            pool.load(b"a", one(alloc, b"X", Mode::Set, number(3))?)
-                .is_ok()
-        );
-        assert_eq!(rt; pool.len(), 3);
-        assert_eq!(rt; pool.count(b"X"), 1);
-        assert_eq!(rt; digits_at(&pool, b"X", 0), Some(3));
-        assert!(rt; pool.unload(b"a").is_ok());
-        assert_eq!(rt; pool.count(b"X"), 2);
-        assert_eq!(rt; digits_at(&pool, b"X", 0), Some(1));
-        assert_eq!(rt; digits_at(&pool, b"X", 1), Some(2));
-        assert_eq!(rt; digits_at(&pool, b"X", 2), None);
-        assert!(rt; pool.unload(b"a").is_ok());
-        assert_eq!(rt; pool.unload(b"a"), Err(NotLoaded));
-        match pool.name_at(0) {
-            Some(name) => assert_eq!(rt; name, b"b".as_slice()),
-            None => assert!(rt; false),
-        }
-        assert!(rt; pool.name_at(1).is_none());
-        pool.clear();
-        assert_eq!(rt; pool.len(), 0);
-        assert_eq!(rt; pool.count(b"X"), 0);
-        Ok(())
-    }
-
-    #[test]
-    fn knows_kinds(rt: HostRuntime) -> Result<(), Fail> {
-        let alloc = rt.alloc();
-        let mut pool = Pool::new(alloc);
-        let text = Value::Text(KText::from_slice(alloc, b"text")?);
-        assert_eq!(rt; pool.kind(b"X"), Kind::Absent);
-        assert!(rt;
-            pool.load(b"a", one(alloc, b"X", Mode::Add, number(1))?)
-                .is_ok()
-        );
-        assert!(rt; pool.load(b"a", one(alloc, b"Y", Mode::Set, text)?).is_ok());
-        assert_eq!(rt; pool.kind(b"X"), Kind::Numbers);
-        assert_eq!(rt; pool.kind(b"Y"), Kind::Texts);
-        assert!(rt;
-            pool.load(b"b", one(alloc, b"Y", Mode::Add, number(1))?)
-                .is_ok()
-        );
-        assert_eq!(rt; pool.kind(b"Y"), Kind::Mixed);
-        Ok(())
-    }
 }

@@ -1,4 +1,4 @@
-//! Places of kernels in the order of loading.
+//! The last kernel of a name.
 
 ghost use Rattle.std.specs.Prelude.{◌≡◌, None};
 ghost use Rattle.st_pool.specs.PoolMachine as machine;
