@@ -5,8 +5,8 @@ ghost use Rattle.st_series.specs.Enclosed.{HasSine, HasCosine};
 
 use st_enclosure::{Enc, UNIT};
 
-/// What rounding fourteen terms, and leaving out the others, can cost: more than 9/5 units a term after the first, and
-/// one for those left out.
+/// What rounding fourteen terms, and leaving out the others, can cost: at most 9/5 units a term after the first, and one
+/// for those left out.
 const ERROR: i128 = 25;
 
 /// Enclosures of the sine and of the cosine of `x` units, an angle in radians of at most 2·10^18 units, which is 2. They
@@ -24,13 +24,31 @@ pub fn sin_cos_small(x: i128) -> (Enc, Enc)
     ensures sine_narrow { (result.0.hi -ℤ result.0.lo) ≤ℤ pos 51 }
     ensures cosine_narrow { (result.1.hi -ℤ result.1.lo) ≤ℤ pos 51 }
 {
+    (sin_small(x), cos_small(x))
+}
+
+/// The sine alone, for who needs no more.
+pub fn sin_small(x: i128) -> Enc
+    requires { unsigned_abs x ≤ 2 * 10 ^ 18 }
+    ensures sine { HasSine result.lo result.hi (units x) }
+    ensures low { result.lo ≡ small_sine x -ℤ pos 25 }
+    ensures high { result.hi ≡ small_sine x +ℤ pos 25 }
+{
     let square = square_of(x);
-    let sine = alternating_sum(x, square, 1);
-    let cosine = alternating_sum(UNIT, square, 0);
-    (
-        Enc::point(sine).widen(ERROR),
-        Enc::point(cosine).widen(ERROR),
-    )
+    let sum = alternating_sum(x, square, 1);
+    Enc::point(sum).widen(ERROR)
+}
+
+/// The cosine alone.
+pub fn cos_small(x: i128) -> Enc
+    requires { unsigned_abs x ≤ 2 * 10 ^ 18 }
+    ensures cosine { HasCosine result.lo result.hi (units x) }
+    ensures low { result.lo ≡ small_cosine x -ℤ pos 25 }
+    ensures high { result.hi ≡ small_cosine x +ℤ pos 25 }
+{
+    let square = square_of(x);
+    let sum = alternating_sum(UNIT, square, 0);
+    Enc::point(sum).widen(ERROR)
 }
 
 fn square_of(x: i128) -> i128

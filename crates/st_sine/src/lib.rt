@@ -9,6 +9,7 @@ mod anomaly;
 mod double;
 pub mod laws;
 mod orbit;
+mod quarters;
 
 pub use angle::sin_cos;
 pub use anomaly::anomaly_sine;
