@@ -1,4 +1,4 @@
-ghost use Rattle.std.specs.Prelude.{◌≡◌, pos, ◌+◌, ◌*◌, ◌^◌, ◌≤◌, ◌-ℤ◌, ◌+ℤ◌, ◌*ℤ◌, ◌≤ℤ◌, unsigned_abs};
+ghost use Rattle.std.specs.Prelude.{◌≡◌, pos, ◌+◌, ◌*◌, ◌/◌, ◌^◌, ◌≤◌, ◌-ℤ◌, ◌+ℤ◌, ◌*ℤ◌, ◌≤ℤ◌, unsigned_abs};
 ghost use Rattle.st_fraction.specs.Fraction.{units};
 ghost use Rattle.st_series.specs.Small.{floor_of, rounded_sum, rounded_square, small_sine, small_cosine};
 ghost use Rattle.st_series.specs.Enclosed.{HasSine, HasCosine};
@@ -8,6 +8,12 @@ use st_enclosure::{Enc, UNIT};
 /// What rounding fourteen terms, and leaving out the others, can cost: at most 9/5 units a term after the first, and one
 /// for those left out.
 const ERROR: i128 = 25;
+
+/// The units in one, without a sign.
+const UNITS: u128 = 1_000_000_000_000_000_000;
+
+/// 2^123 / 10^18, rounded down.
+const RECIPROCAL: u128 = 10_633_823_966_279_326_983;
 
 /// Enclosures of the sine and of the cosine of `x` units, an angle in radians of at most 2·10^18 units, which is 2. They
 /// are the small bounds: fourteen terms of the series, each rounded down, and 25 units to both sides.
@@ -57,7 +63,7 @@ fn square_of(x: i128) -> i128
     ensures low { pos 0 ≤ℤ result }
     ensures high { result ≤ℤ pos (4 * 10 ^ 18) }
 {
-    (x * x).div_euclid(UNIT)
+    whole_units((x * x) as u128) as i128
 }
 
 // The alternating sum of fourteen terms, the first of which has the given degree.
@@ -91,7 +97,34 @@ fn next_term(term: i128, square: i128, divisor: i128) -> i128
     ensures value { result ≡ floor_of (term *ℤ square) (10 ^ 18 * unsigned_abs divisor) }
     ensures small { unsigned_abs result ≤ 2 * 10 ^ 18 }
 {
-    (term * square).div_euclid(UNIT * divisor)
+    let product = term * square;
+    if product < 0 {
+        -1 - quotient((-1 - product) as u128, divisor)
+    } else {
+        quotient(product as u128, divisor)
+    }
+}
+
+// A product of units divided by so many, rounded down, in two steps.
+fn quotient(product: u128, divisor: i128) -> i128
+    requires product { product ≤ 8 * 10 ^ 36 }
+    requires divisor_low { pos 1 ≤ℤ divisor }
+    requires divisor_high { divisor ≤ℤ pos 1000 }
+    ensures value { result ≡ pos (product / (10 ^ 18 * unsigned_abs divisor)) }
+{
+    (whole_units(product) / divisor as u64) as i128
+}
+
+// The whole units in a product of units: a product by the reciprocal, which is at most one short, in place of a division of
+// 128 bits.
+fn whole_units(product: u128) -> u64
+    requires product { product ≤ 8 * 10 ^ 36 }
+    ensures value { result ≡ product / 10 ^ 18 }
+{
+    let coarse = (product >> 59) as u64;
+    let estimate = ((coarse as u128 * RECIPROCAL) >> 64) as u64;
+    let rest = product - estimate as u128 * UNITS;
+    if rest < UNITS { estimate } else { estimate + 1 }
 }
 
 #[cfg(test)]
