@@ -6,4 +6,4 @@
 pub mod laws;
 mod small;
 
-pub use small::{cos_small, sin_cos_small, sin_small};
+pub use small::{cos_within_one, sin_cos_small, sin_within_one};

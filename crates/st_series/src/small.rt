@@ -1,4 +1,4 @@
-ghost use Rattle.std.specs.Prelude.{◌≡◌, pos, ◌+◌, ◌*◌, ◌/◌, ◌^◌, ◌≤◌, ◌-ℤ◌, ◌+ℤ◌, ◌*ℤ◌, ◌≤ℤ◌, unsigned_abs};
+ghost use Rattle.std.specs.Prelude.{◌≡◌, pos, ◌+◌, ◌*◌, ◌/◌, ◌^◌, ◌≤◌, ◌-ℤ◌, ◌+ℤ◌, ◌*ℤ◌, ◌≤ℤ◌, unsigned_abs, ◌⊎◌};
 ghost use Rattle.st_fraction.specs.Fraction.{units};
 ghost use Rattle.st_series.specs.Small.{floor_of, rounded_sum, rounded_square, small_sine, small_cosine};
 ghost use Rattle.st_series.specs.Enclosed.{HasSine, HasCosine};
@@ -8,6 +8,11 @@ use st_enclosure::{Enc, UNIT};
 /// What rounding fourteen terms, and leaving out the others, can cost: at most 9/5 units a term after the first, and one
 /// for those left out.
 const ERROR: i128 = 25;
+
+/// The terms after the first, for angles up to 2 rad and up to 1 rad.
+const TURNS: u64 = 13;
+
+const SHORT_TURNS: u64 = 9;
 
 /// The units in one, without a sign.
 const UNITS: u128 = 1_000_000_000_000_000_000;
@@ -30,30 +35,34 @@ pub fn sin_cos_small(x: i128) -> (Enc, Enc)
     ensures sine_narrow { (result.0.hi -ℤ result.0.lo) ≤ℤ pos 51 }
     ensures cosine_narrow { (result.1.hi -ℤ result.1.lo) ≤ℤ pos 51 }
 {
-    (sin_small(x), cos_small(x))
+    let square = square_of(x);
+    let sine = alternating_sum(x, square, 1, TURNS);
+    let cosine = alternating_sum(UNIT, square, 0, TURNS);
+    (
+        Enc::point(sine).widen(ERROR),
+        Enc::point(cosine).widen(ERROR),
+    )
 }
 
-/// The sine alone, for who needs no more.
-pub fn sin_small(x: i128) -> Enc
-    requires { unsigned_abs x ≤ 2 * 10 ^ 18 }
+/// An enclosure of the sine of `x` units, an angle of at most 1 rad, for which ten terms suffice.
+pub fn sin_within_one(x: i128) -> Enc
+    requires { unsigned_abs x ≤ 10 ^ 18 }
     ensures sine { HasSine result.lo result.hi (units x) }
-    ensures low { result.lo ≡ small_sine x -ℤ pos 25 }
-    ensures high { result.hi ≡ small_sine x +ℤ pos 25 }
+    ensures width { result.hi ≡ result.lo +ℤ pos 50 }
 {
     let square = square_of(x);
-    let sum = alternating_sum(x, square, 1);
+    let sum = alternating_sum(x, square, 1, SHORT_TURNS);
     Enc::point(sum).widen(ERROR)
 }
 
-/// The cosine alone.
-pub fn cos_small(x: i128) -> Enc
-    requires { unsigned_abs x ≤ 2 * 10 ^ 18 }
+/// An enclosure of the cosine of `x` units, an angle of at most 1 rad.
+pub fn cos_within_one(x: i128) -> Enc
+    requires { unsigned_abs x ≤ 10 ^ 18 }
     ensures cosine { HasCosine result.lo result.hi (units x) }
-    ensures low { result.lo ≡ small_cosine x -ℤ pos 25 }
-    ensures high { result.hi ≡ small_cosine x +ℤ pos 25 }
+    ensures width { result.hi ≡ result.lo +ℤ pos 50 }
 {
     let square = square_of(x);
-    let sum = alternating_sum(UNIT, square, 0);
+    let sum = alternating_sum(UNIT, square, 0, SHORT_TURNS);
     Enc::point(sum).widen(ERROR)
 }
 
@@ -66,19 +75,20 @@ fn square_of(x: i128) -> i128
     whole_units((x * x) as u128) as i128
 }
 
-// The alternating sum of fourteen terms, the first of which has the given degree.
-fn alternating_sum(first: i128, square: i128, degree: u64) -> i128
+// The alternating sum of the first term, which has the given degree, and of so many more, an odd number.
+fn alternating_sum(first: i128, square: i128, degree: u64, turns: u64) -> i128
     requires degree { degree ≤ 1 }
+    requires turns { (turns ≡ 9) ⊎ (turns ≡ 13) }
     requires first { unsigned_abs first ≤ (degree + 1) * 10 ^ 18 }
     requires square_low { pos 0 ≤ℤ square }
     requires square_high { square ≤ℤ pos (4 * 10 ^ 18) }
-    ensures value { result ≡ rounded_sum first square degree 13 }
+    ensures value { result ≡ rounded_sum first square degree turns }
     ensures small { unsigned_abs result ≤ 28 * 10 ^ 18 }
 {
     let mut term = first;
     // The sum so far, with the sign turned at each term.
     let mut sum = first;
-    for i in 0..13u64 {
+    for i in 0..turns {
         let reached = 2 * i + degree;
         term = next_term(term, square, ((reached + 1) * (reached + 2)) as i128);
         sum = term - sum;

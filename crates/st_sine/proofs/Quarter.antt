@@ -162,38 +162,48 @@ turned_by : (k s c : ℤ) (e : ℕ) (z : ℤ) → e + 216 * unsigned_abs k ≤ 1
 turned_by (pos n) s c e z small b = turns_on n s c e z small b
 turned_by (negsuc n) s c e z small b = turns_back (suc n) s c e z small b
 
-start : (rest : ℤ) → unsigned_abs rest ≤ 2 * 10 ^ 18 → HasBoth (small_sine rest) (small_cosine rest) 25 rest
-start rest h = record { sine = has_small_sine rest h; cosine = has_small_cosine rest h }
+-- with an enclosure of the one, 50 units wide, and the small bounds of the other
+start_sine : (rest lo hi : ℤ) → unsigned_abs rest ≤ 10 ^ 18 → HasSine lo hi (units rest) → hi ≡ lo +ℤ pos 50 → HasBoth (lo +ℤ pos 25) (small_cosine rest) 25 rest
+start_sine rest lo hi h s w =
+    let a : lo +ℤ pos 25 -ℤ pos 25 ≡ lo = omega (arith, ints) in
+    let b : lo +ℤ pos 25 +ℤ pos 25 ≡ hi = omega (arith, ints) in
+    record { sine = rw (a, b) s; cosine = has_small_cosine rest (omega arith) }
+
+start_cosine : (rest lo hi : ℤ) → unsigned_abs rest ≤ 10 ^ 18 → HasCosine lo hi (units rest) → hi ≡ lo +ℤ pos 50 → HasBoth (small_sine rest) (lo +ℤ pos 25) 25 rest
+start_cosine rest lo hi h s w =
+    let a : lo +ℤ pos 25 -ℤ pos 25 ≡ lo = omega (arith, ints) in
+    let b : lo +ℤ pos 25 +ℤ pos 25 ≡ hi = omega (arith, ints) in
+    record { sine = has_small_sine rest (omega arith); cosine = rw (a, b) s }
 
 same_sine : (lo hi l h z y : ℤ) → lo ≡ l → hi ≡ h → z ≡ y → HasSine l h (units y) → HasSine lo hi (units z)
 same_sine lo hi l h z y a b c s = rw (a, b, c) s
 
--- The sine of what is left and so many whole turns and quarters, by the small bounds of what is left.
+-- The sine of what is left and so many whole turns and quarters, by the sine or the cosine of what is left.
 pub record IsAfter (lo hi rest k : ℤ) (r : ℕ) : Type 0 where
   pub sine : HasSine (lo -ℤ pos (54 * (4 * unsigned_abs k + r))) (hi +ℤ pos (54 * (4 * unsigned_abs k + r))) (units (rest +ℤ (pos 4 *ℤ k +ℤ pos r) *ℤ pos quarter))
 
-pub after_none : (rest k lo hi : ℤ) → unsigned_abs rest ≤ 2 * 10 ^ 18 → unsigned_abs k ≤ 500 → lo ≡ small_sine rest -ℤ pos 25 → hi ≡ small_sine rest +ℤ pos 25 → IsAfter lo hi rest k 0
-after_none rest k lo hi h few l u =
-    let b = turned_by k _ _ 25 rest (omega arith) (start rest h) in
-    record { sine = same_sine _ _ _ _ _ _ (omega (arith, ints, l)) (omega (arith, ints, u)) (omega (arith, ints)) b.sine }
+pub after_none : (rest k lo hi : ℤ) → unsigned_abs rest ≤ 10 ^ 18 → unsigned_abs k ≤ 500 → HasSine lo hi (units rest) → hi ≡ lo +ℤ pos 50 → IsAfter lo hi rest k 0
+after_none rest k lo hi h few s w =
+    let b = turned_by k _ _ 25 rest (omega arith) (start_sine rest lo hi h s w) in
+    record { sine = same_sine _ _ _ _ _ _ (omega (arith, ints)) (omega (arith, ints, w)) (omega (arith, ints)) b.sine }
 
-pub after_one : (rest k lo hi : ℤ) → unsigned_abs rest ≤ 2 * 10 ^ 18 → unsigned_abs k ≤ 500 → lo ≡ small_cosine rest -ℤ pos 25 → hi ≡ small_cosine rest +ℤ pos 25 → IsAfter lo hi rest k 1
-after_one rest k lo hi h few l u =
-    let b = turned_by k _ _ 25 rest (omega arith) (start rest h) in
+pub after_one : (rest k lo hi : ℤ) → unsigned_abs rest ≤ 10 ^ 18 → unsigned_abs k ≤ 500 → HasCosine lo hi (units rest) → hi ≡ lo +ℤ pos 50 → IsAfter lo hi rest k 1
+after_one rest k lo hi h few s w =
+    let b = turned_by k _ _ 25 rest (omega arith) (start_cosine rest lo hi h s w) in
     let one = quarter_on _ _ _ _ (omega arith) b in
-    record { sine = same_sine _ _ _ _ _ _ (omega (arith, ints, l)) (omega (arith, ints, u)) (omega (arith, ints)) one.sine }
+    record { sine = same_sine _ _ _ _ _ _ (omega (arith, ints)) (omega (arith, ints, w)) (omega (arith, ints)) one.sine }
 
-pub after_two : (rest k lo hi : ℤ) → unsigned_abs rest ≤ 2 * 10 ^ 18 → unsigned_abs k ≤ 500 → lo ≡ neg_ℤ (small_sine rest +ℤ pos 25) → hi ≡ neg_ℤ (small_sine rest -ℤ pos 25) → IsAfter lo hi rest k 2
-after_two rest k lo hi h few l u =
-    let b = turned_by k _ _ 25 rest (omega arith) (start rest h) in
+pub after_two : (rest k l h lo hi : ℤ) → unsigned_abs rest ≤ 10 ^ 18 → unsigned_abs k ≤ 500 → HasSine l h (units rest) → h ≡ l +ℤ pos 50 → lo ≡ neg_ℤ h → hi ≡ neg_ℤ l → IsAfter lo hi rest k 2
+after_two rest k l h lo hi small few s w el eh =
+    let b = turned_by k _ _ 25 rest (omega arith) (start_sine rest l h small s w) in
     let one = quarter_on _ _ _ _ (omega arith) b in
     let two = quarter_on _ _ _ _ (omega arith) one in
-    record { sine = same_sine _ _ _ _ _ _ (omega (arith, ints, l)) (omega (arith, ints, u)) (omega (arith, ints)) two.sine }
+    record { sine = same_sine _ _ _ _ _ _ (omega (arith, ints, w, el)) (omega (arith, ints, eh)) (omega (arith, ints)) two.sine }
 
-pub after_three : (rest k lo hi : ℤ) → unsigned_abs rest ≤ 2 * 10 ^ 18 → unsigned_abs k ≤ 500 → lo ≡ neg_ℤ (small_cosine rest +ℤ pos 25) → hi ≡ neg_ℤ (small_cosine rest -ℤ pos 25) → IsAfter lo hi rest k 3
-after_three rest k lo hi h few l u =
-    let b = turned_by k _ _ 25 rest (omega arith) (start rest h) in
+pub after_three : (rest k l h lo hi : ℤ) → unsigned_abs rest ≤ 10 ^ 18 → unsigned_abs k ≤ 500 → HasCosine l h (units rest) → h ≡ l +ℤ pos 50 → lo ≡ neg_ℤ h → hi ≡ neg_ℤ l → IsAfter lo hi rest k 3
+after_three rest k l h lo hi small few s w el eh =
+    let b = turned_by k _ _ 25 rest (omega arith) (start_cosine rest l h small s w) in
     let one = quarter_on _ _ _ _ (omega arith) b in
     let two = quarter_on _ _ _ _ (omega arith) one in
     let three = quarter_on _ _ _ _ (omega arith) two in
-    record { sine = same_sine _ _ _ _ _ _ (omega (arith, ints, l)) (omega (arith, ints, u)) (omega (arith, ints)) three.sine }
+    record { sine = same_sine _ _ _ _ _ _ (omega (arith, ints, w, el)) (omega (arith, ints, eh)) (omega (arith, ints)) three.sine }

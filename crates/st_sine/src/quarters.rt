@@ -4,7 +4,7 @@ ghost use Rattle.st_enclosure.specs.Ends.{EndsAtMost};
 ghost use Rattle.st_series.specs.Enclosed.{HasSine};
 
 use st_enclosure::Enc;
-use st_series::{cos_small, sin_small};
+use st_series::{cos_within_one, sin_within_one};
 
 /// A quarter of a turn, π/2, to whole units.
 const QUARTER: i128 = 1_570_796_326_794_896_619;
@@ -34,7 +34,7 @@ pub(crate) fn sine_of(arg: Enc) -> Enc
 // How many whole quarters of a turn to take off an angle, by its size to 2^32 units.
 fn quarters_in(angle: i128) -> i64
     requires angle { unsigned_abs angle ≤ 2600 * 10 ^ 18 }
-    ensures rest { unsigned_abs (angle -ℤ result *ℤ QUARTER) ≤ 2 * 10 ^ 18 }
+    ensures rest { unsigned_abs (angle -ℤ result *ℤ QUARTER) ≤ 10 ^ 18 }
     ensures few { unsigned_abs result ≤ 1700 }
 {
     let coarse = (angle >> 32) as i64;
@@ -60,20 +60,20 @@ fn whole_turns(quarters: i64) -> (i64, u64)
     (quarters.div_euclid(4), quarters.rem_euclid(4) as u64)
 }
 
-// The sine of `rest`, at most 2, and 0 to 3 quarters of a turn, as if a quarter were exact; so it is the sine of that and any
+// The sine of `rest`, at most 1, and 0 to 3 quarters of a turn, as if a quarter were exact; so it is the sine of that and any
 // whole turns, but for what the quarters cost.
 fn sine_after(rest: i128, quarter: u64) -> Enc
-    requires rest { unsigned_abs rest ≤ 2 * 10 ^ 18 }
+    requires rest { unsigned_abs rest ≤ 10 ^ 18 }
     requires quarter { quarter ≤ 3 }
     ensures sine { (turns : ℤ) → unsigned_abs turns ≤ 500 → HasSine (result.lo -ℤ pos (54 * (4 * unsigned_abs turns + quarter))) (result.hi +ℤ pos (54 * (4 * unsigned_abs turns + quarter))) (units (rest +ℤ (pos 4 *ℤ turns +ℤ pos quarter) *ℤ QUARTER)) }
     ensures narrow { (result.hi -ℤ result.lo) ≤ℤ pos 50 }
     ensures ends { EndsAtMost result.lo result.hi (10 ^ 18 + 50) }
 {
     match quarter {
-        0 => sin_small(rest),
-        1 => cos_small(rest),
-        2 => Enc::point(0).sub(sin_small(rest)),
-        _ => Enc::point(0).sub(cos_small(rest)),
+        0 => sin_within_one(rest),
+        1 => cos_within_one(rest),
+        2 => Enc::point(0).sub(sin_within_one(rest)),
+        _ => Enc::point(0).sub(cos_within_one(rest)),
     }
 }
 
