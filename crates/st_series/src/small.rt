@@ -198,13 +198,19 @@ mod tests {
         ),
     ];
 
+    fn holds(found: Enc, value: i128) -> bool {
+        found.lo <= value.div_euclid(PARTS) && value.div_euclid(PARTS) < found.hi
+    }
+
     #[test]
     fn encloses_sine_and_cosine(rt: HostRuntime) {
         for (x, sine, cosine) in ANGLES {
             assert!(rt; -2 * UNIT <= x && x <= 2 * UNIT);
             let (s, c) = sin_cos_small(x);
-            assert!(rt; s.lo <= sine.div_euclid(PARTS) && sine.div_euclid(PARTS) < s.hi);
-            assert!(rt; c.lo <= cosine.div_euclid(PARTS) && cosine.div_euclid(PARTS) < c.hi);
+            assert!(rt; holds(s, sine) && holds(c, cosine));
+            if -UNIT <= x && x <= UNIT {
+                assert!(rt; holds(sin_within_one(x), sine) && holds(cos_within_one(x), cosine));
+            }
         }
     }
 

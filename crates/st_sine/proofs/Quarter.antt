@@ -3,7 +3,7 @@
 use Rattle.std.proofs.Common.{◌≡◌, ℕ, zero, suc, ◌+◌, ◌*◌, ◌^◌, ◌≤◌, ℤ, pos, negsuc, ◌+ℤ◌, ◌-ℤ◌, ◌*ℤ◌, neg_ℤ, ◌≤ℤ◌, unsigned_abs, refl, arith, lit<, lit≤}
 use Rattle.std.proofs.Math.IntN.{neg_ℤ-neg_ℤ}
 use Rattle.std.proofs.lemmas.Int.{ints}
-use Rattle.st_fraction.specs.Fraction.{Fraction, IsFraction, units, ◌+ᶠ◌, ◌-ᶠ◌, ◌*ᶠ◌, LiesWithin}
+use Rattle.st_fraction.specs.Fraction.{Fraction, IsFraction, units, ◌*ᶠ◌, LiesWithin}
 use Rattle.st_fraction.proofs.Ring.{le-mul_z}
 use Rattle.st_fraction.proofs.Order.{le_f_trans}
 use Rattle.st_enclosure.specs.Ends.{EndsAtMost}

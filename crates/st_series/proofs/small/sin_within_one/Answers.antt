@@ -1,7 +1,7 @@
-use Rattle.std.proofs.Common.{◌≡◌, pos, ℤ, ◌-ℤ◌, ◌+ℤ◌, ◌∙◌, ap, arith, rules}
+use Rattle.std.proofs.Common.{pos, ℤ, ◌-ℤ◌, ◌+ℤ◌, ◌∙◌, ap, rules}
 use Rattle.std.specs.Int.{w128}
 use Rattle.std.specs.Int.RustNames.{FitsSigned}
-use Rattle.std.proofs.lemmas.Int.{ints, to_z-of_z}
+use Rattle.std.proofs.lemmas.Int.{to_z-of_z}
 use Rattle.st_series.proofs.SmallBounds.{has_short_sine}
 use Rattle.st_series.proofs.small.sin_within_one.Goals as goal
 
