@@ -9,11 +9,15 @@ use st_series::{cos_within_one, sin_within_one};
 /// A quarter of a turn, π/2, to whole units.
 const QUARTER: i128 = 1_570_796_326_794_896_619;
 
-/// What a quarter of a turn costs at most: the rounding of `QUARTER`, and its sine and cosine by their small bounds.
+/// The units by which a quarter of a turn can put a sine off: `QUARTER` is rounded, and its sine and cosine are known by
+/// their small bounds.
 const QUARTER_COST: u64 = 54;
 
-/// The quarters in 2^32 units, times 2^52, to a whole number.
+/// 2^84 / `QUARTER`: the quarters in 2^32 units, times 2^52.
 const RATE: i64 = 12_314_017;
+
+/// Half of 2^52, so that quarters are taken to the nearest.
+const HALF: i64 = 0x8_0000_0000_0000;
 
 /// An enclosure of the sine of every angle that `arg` contains, in radians. Whole quarters of a turn are taken off, which
 /// exchange sine and cosine, and the series serves what is left, at most about half a quarter.
@@ -31,17 +35,17 @@ pub(crate) fn sine_of(arg: Enc) -> Enc
     sine.widen(cost).widen(arg.hi - arg.lo)
 }
 
-// How many whole quarters of a turn to take off an angle, by its size to 2^32 units.
+// How many quarters of a turn to take off an angle, found from its size in 2^32 units.
 fn quarters_in(angle: i128) -> i64
     requires angle { unsigned_abs angle ≤ 2600 * 10 ^ 18 }
     ensures rest { unsigned_abs (angle -ℤ result *ℤ QUARTER) ≤ 10 ^ 18 }
     ensures few { unsigned_abs result ≤ 1700 }
 {
     let coarse = (angle >> 32) as i64;
-    (coarse * RATE + 0x8_0000_0000_0000) >> 52
+    (coarse * RATE + HALF) >> 52
 }
 
-// What is left of an angle.
+// What is left of an angle without them.
 fn rest_of(angle: i128, quarters: i64) -> i128
     requires angle { unsigned_abs angle ≤ 2600 * 10 ^ 18 }
     requires few { unsigned_abs quarters ≤ 1700 }
@@ -60,8 +64,8 @@ fn whole_turns(quarters: i64) -> (i64, u64)
     (quarters.div_euclid(4), quarters.rem_euclid(4) as u64)
 }
 
-// The sine of `rest`, at most 1, and 0 to 3 quarters of a turn, as if a quarter were exact; so it is the sine of that and any
-// whole turns, but for what the quarters cost.
+// The sine of `rest`, at most 1, and 0 to 3 quarters of a turn, as if a quarter were exact. So it is the sine of that and
+// any whole turns, but for what all their quarters cost.
 fn sine_after(rest: i128, quarter: u64) -> Enc
     requires rest { unsigned_abs rest ≤ 10 ^ 18 }
     requires quarter { quarter ≤ 3 }
@@ -77,7 +81,7 @@ fn sine_after(rest: i128, quarter: u64) -> Enc
     }
 }
 
-// What the quarters cost, and the whole turns of four.
+// What the quarters cost, those of whole turns and the others.
 fn cost_of(turns: i64, quarter: u64) -> i128
     requires turns { unsigned_abs turns ≤ 500 }
     requires quarter { quarter ≤ 3 }
