@@ -15,4 +15,5 @@ pub mod Lipschitz
 pub mod Narrow
 pub mod Values
 pub mod Rounded
+pub mod Quotients
 pub mod SmallBounds

@@ -1,6 +1,6 @@
 -- How far the rounded terms and their sums are from the exact ones. Each rounding costs less than one unit, and what the
 -- roundings before it cost shrinks with each step, so that 9/5 units bound the error of every term after the first.
-use Rattle.std.proofs.Common.{◌≡◌, ℕ, zero, suc, ◌+◌, ◌*◌, ◌^◌, ◌≤◌, ◌<◌, ℤ, pos, negsuc, ◌+ℤ◌, ◌-ℤ◌, ◌*ℤ◌, neg_ℤ, ◌≤ℤ◌, ◌<ℤ◌, unsigned_abs, refl, ap, arith, mul-pos, mul-le-mul, mul-le-mul_right, mul-le-mul_left}
+use Rattle.std.proofs.Common.{◌≡◌, ℕ, zero, suc, ◌+◌, ◌*◌, ◌^◌, ◌≤◌, ◌<◌, ℤ, pos, negsuc, ◌+ℤ◌, ◌-ℤ◌, ◌*ℤ◌, neg_ℤ, ◌≤ℤ◌, ◌<ℤ◌, ◌⊎◌, inl, inr, unsigned_abs, refl, ap, arith, mul-pos, mul-le-mul, mul-le-mul_right, mul-le-mul_left}
 use Rattle.std.specs.Int.{int_div_euclid}
 use Rattle.std.proofs.lemmas.Int.{ints, unsigned_abs-mul}
 use Rattle.std.proofs.Math.IntN.{neg_ℤ-+ℤ, neg_ℤ-neg_ℤ}
@@ -238,5 +238,8 @@ small_so_far first (pos q) k i term sum hk h h0 hq s =
     }
 small_so_far first (negsuc q) k i term sum hk h h0 hq s = absurd (omega (arith, ints))
 
-pub sums_done : (first q : ℤ) (k : ℕ) (term sum : ℤ) → SumsSoFar first q k 13 term sum → pos 0 -ℤ sum ≡ rounded_sum first q k 13
-sums_done first q k term sum s = let e = s.sum_is in omega (arith, ints)
+pub sums_done : (first q : ℤ) (k i : ℕ) (term sum : ℤ) → (i ≡ 9) ⊎ (i ≡ 13) → SumsSoFar first q k i term sum → pos 0 -ℤ sum ≡ rounded_sum first q k i
+sums_done first q k i term sum odd s = elim odd [
+  | inl e ↦ let z = rw e at s.sum_is in rw e (omega (arith, ints, z))
+  | inr e ↦ let z = rw e at s.sum_is in rw e (omega (arith, ints, z))
+]

@@ -1,5 +1,5 @@
 -- The small bounds hold: fourteen rounded terms, and the first term that is left out, stay within 25 units.
-use Rattle.std.proofs.Common.{◌≡◌, ℕ, zero, suc, ◌+◌, ◌*◌, ◌^◌, ◌≤◌, ◌<◌, ℤ, pos, negsuc, ◌+ℤ◌, ◌-ℤ◌, ◌*ℤ◌, ◌≤ℤ◌, unsigned_abs, refl, sym, ap, ◌∙◌, arith, lit<, lit≤, mul-pos, mul-le-mul, mul-le-mul_right, mul-le-mul_left, subst}
+use Rattle.std.proofs.Common.{◌≡◌, ℕ, zero, suc, ◌+◌, ◌*◌, ◌^◌, ◌≤◌, ◌<◌, ℤ, pos, negsuc, ◌+ℤ◌, ◌-ℤ◌, ◌*ℤ◌, ◌≤ℤ◌, unsigned_abs, refl, sym, ap, ◌∙◌, arith, lit<, lit≤, mul-pos, mul-le-mul, mul-le-mul_right, mul-le-mul_left}
 use Rattle.std.specs.Int.{int_div_euclid}
 use Rattle.std.proofs.Math.Nat.{pow-zero, pow-suc}
 use Rattle.std.proofs.lemmas.Int.{ints}
@@ -10,7 +10,7 @@ use Rattle.st_fraction.proofs.Scale.{IsAt, at_self, at_more, le_at}
 use Rattle.st_enclosure.proofs.Contained.{move_low, move_high}
 use Rattle.st_enclosure.proofs.Quotient.{IsFloor}
 use Rattle.st_series.specs.Series.{factorial, power, turned, term, sine_sum, cosine_sum, IsLongEnough, sine_lower, sine_upper, cosine_lower, cosine_upper, sine_num, cosine_num}
-use Rattle.st_series.specs.Small.{rounded_sum, small_sine, small_cosine}
+use Rattle.st_series.specs.Small.{rounded_sum, rounded_square, small_sine, small_cosine}
 use Rattle.st_series.specs.Enclosed.{HasSine, HasCosine}
 use Rattle.st_series.proofs.Terms.{term-den, sine_sum-den, cosine_sum-den}
 use Rattle.st_series.proofs.PartialSums.{full, full-two, sine_num_at, cosine_num_at}
@@ -114,23 +114,33 @@ within_25 s a l u t pa pl pu pt w la au ul small =
       high = record { le = rw f at (move_high (s +ℤ pos 24) (pos 1) u.num u.den (10 ^ 18) (lit< tt) last.le) };
     }
 
--- a^k / (w^k k!) is at most 1 / w, for a at most 2 w
-power_below : (a w k : ℕ) → a ≤ 2 * w → a ^ k ≤ 2 ^ k * w ^ k
-power_below a w zero h = rw (pow-zero, pow-zero, pow-zero) (omega arith)
-power_below a w (suc k) h = rw (pow-suc a k, pow-suc 2 k, pow-suc w k) (omega (arith, mul-le-mul (power_below a w k h) h))
+-- a^k / (w^k k!) is at most 1 / w, for a at most b w
+power_below : (b a w k : ℕ) → a ≤ b * w → a ^ k ≤ b ^ k * w ^ k
+power_below b a w zero h = rw (pow-zero, pow-zero, pow-zero) (omega arith)
+power_below b a w (suc k) h = rw (pow-suc a k, pow-suc b k, pow-suc w k) (omega (arith, mul-le-mul (power_below b a w k h) h))
 
-left_out_small : (a w k : ℕ) → a ≤ 2 * w → 2 ^ k * w ≤ factorial k → (power (pos a) k *ℤ pos w) ≤ℤ (pos 1 *ℤ pos (w ^ k * factorial k))
-left_out_small a w k h f = rw (power_is a k) (by (a ^ k) (2 ^ k) (w ^ k) (factorial k) (power_below a w k h) f)
+left_out_small : (b a w k : ℕ) → a ≤ b * w → b ^ k * w ≤ factorial k → (power (pos a) k *ℤ pos w) ≤ℤ (pos 1 *ℤ pos (w ^ k * factorial k))
+left_out_small b a w k h f = rw (power_is a k) (by (a ^ k) (b ^ k) (w ^ k) (factorial k) (power_below b a w k h) f)
   where
     by : (p t v n : ℕ) → p ≤ t * v → t * w ≤ n → pos (p * w) ≤ℤ (pos 1 *ℤ pos (v * n))
     by p t v n g f = omega (arith, ints, mul-le-mul_right w g, mul-le-mul_left v f)
 
-term_below_unit : (x : ℤ) (k : ℕ) → unsigned_abs x ≤ 2 * 10 ^ 18 → 2 ^ k * 10 ^ 18 ≤ factorial k → term (abs_f (units x)) k ≤ᶠ units (pos 1)
+term_below_unit : (b : ℕ) (x : ℤ) (k : ℕ) → unsigned_abs x ≤ b * 10 ^ 18 → b ^ k * 10 ^ 18 ≤ factorial k → term (abs_f (units x)) k ≤ᶠ units (pos 1)
 unfolding term
-term_below_unit x k h f = record { le = left_out_small (unsigned_abs x) (10 ^ 18) k h f }
+term_below_unit b x k h f = record { le = left_out_small b (unsigned_abs x) (10 ^ 18) k h f }
 
-long_13 : (x : ℤ) (n : ℕ) → n ≡ 13 → unsigned_abs x ≤ 2 * 10 ^ 18 → IsLongEnough (units x) n
-long_13 x n e h = is_long (units x) n (rw e (omega (arith, mul-le-mul h h)))
+-- nine is long enough for 2, and so is what is longer
+long_9 : (x : ℤ) (n : ℕ) → 9 ≤ n → unsigned_abs x ≤ 2 * 10 ^ 18 → IsLongEnough (units x) n
+long_9 x n e h =
+    let a : 19 ≤ 2 * n + 1 = omega arith in
+    let b : 20 ≤ 2 * n + 2 = omega arith in
+    is_long (units x) n (omega (arith, mul-le-mul h h, mul-le-mul_left (10 ^ 36) (mul-le-mul a b)))
+
+-- fewer terms are off by less
+close_more : (s n : ℤ) (e i j : ℕ) → i ≤ j → IsClose s n e i → IsClose s n e j
+close_more s n e i j h c =
+    let m = mul-le-mul_right e h in
+    record { off = record { above = omega (arith, ints, c.off.above, m); below = omega (arith, ints, c.off.below, m) } }
 
 exact_den-pos : (w k n : ℕ) → 0 < w → 0 < exact_den w k n
 unfolding exact_den
@@ -152,7 +162,7 @@ rounded_square_is x h =
     let e : pos (unsigned_abs (int_div_euclid (x *ℤ x) (pos (10 ^ 18)))) ≡ int_div_euclid (x *ℤ x) (pos (10 ^ 18)) = omega (arith, ints) in
     record { same = e; small = square_high x h; floor = rw e (floor_is (x *ℤ x) (10 ^ 18) (lit< tt)) }
 
-sine_bounds : (x : ℤ) (n : ℕ) → n ≡ 13 → unsigned_abs x ≤ 2 * 10 ^ 18 → term (abs_f (units x)) (2 * n + 3) ≤ᶠ units (pos 1)
+sine_bounds : (x : ℤ) (n : ℕ) → n ≤ 13 → unsigned_abs x ≤ 2 * 10 ^ 18 → term (abs_f (units x)) (2 * n + 3) ≤ᶠ units (pos 1)
     → IsWithin25 (rounded_sum x (int_div_euclid (x *ℤ x) (pos (10 ^ 18))) 1 n) (sine_lower (units x) n) (sine_upper (units x) n)
 sine_bounds x n e h small =
     let some : 0 < 10 ^ 18 = lit< tt in
@@ -160,7 +170,7 @@ sine_bounds x n e h small =
     let sq = rounded_square_is x h in
     let s = rounded_sum x (int_div_euclid (x *ℤ x) (pos (10 ^ 18))) 1 n in
     let c = rw (sine_num_is x (10 ^ 18) n, sq.same) at (sums_close x x q 1 h sq.small sq.floor n) in
-    let c13 : IsClose s (sine_num x (10 ^ 18) n) (exact_den (10 ^ 18) 1 n) 13 = subst (λ (i : ℕ). IsClose s (sine_num x (10 ^ 18) n) (exact_den (10 ^ 18) 1 n) i) e c in
+    let c13 = close_more s (sine_num x (10 ^ 18) n) (exact_den (10 ^ 18) 1 n) n 13 e c in
     let at = rw (← sine_den_is (10 ^ 18) n) at (sine_num_at (units x) n) in
     let w = within_24 s (sine_num x (10 ^ 18) n) (exact_den (10 ^ 18) 1 n) (sine_sum (units x) n) (exact_den-pos (10 ^ 18) 1 n some) at c13 in
     let own = sine_own (units x) n some in
@@ -168,7 +178,7 @@ sine_bounds x n e h small =
     (sine_sum-den (units x) n some) (sine_lower-den (units x) n some) (sine_upper-den (units x) n some) (term-den (abs_f (units x)) (2 * n + 3) some) w own.0 own.1
     (le_f_move (sine_upper (units x) n) (sine_lower (units x) n) (term (abs_f (units x)) (2 * n + 3)) (sine_lower-den (units x) n some) (sine_narrow (units x) n (units-fraction x))) small
 
-cosine_bounds : (x : ℤ) (n : ℕ) → n ≡ 13 → unsigned_abs x ≤ 2 * 10 ^ 18 → term (abs_f (units x)) (2 * n + 2) ≤ᶠ units (pos 1)
+cosine_bounds : (x : ℤ) (n : ℕ) → n ≤ 13 → unsigned_abs x ≤ 2 * 10 ^ 18 → term (abs_f (units x)) (2 * n + 2) ≤ᶠ units (pos 1)
     → IsWithin25 (rounded_sum (pos (10 ^ 18)) (int_div_euclid (x *ℤ x) (pos (10 ^ 18))) 0 n) (cosine_lower (units x) n) (cosine_upper (units x) n)
 cosine_bounds x n e h small =
     let some : 0 < 10 ^ 18 = lit< tt in
@@ -178,7 +188,7 @@ cosine_bounds x n e h small =
     let d = exact_den (10 ^ 18) 0 n in
     let num = pos (10 ^ 18) *ℤ cosine_num x (10 ^ 18) n in
     let c = rw (cosine_num_is x (10 ^ 18) n, sq.same) at (sums_close (pos (10 ^ 18)) x q 0 (lit≤ tt) sq.small sq.floor n) in
-    let c13 : IsClose s num d 13 = subst (λ (i : ℕ). IsClose s num d i) e c in
+    let c13 = close_more s num d n 13 e c in
     let at = scaled_at (10 ^ 18) d (cosine_sum (units x) n) (cosine_num x (10 ^ 18) n) (rw (← cosine_den_is (10 ^ 18) n) at (cosine_num_at (units x) n)) in
     let w = within_24 s num d (cosine_sum (units x) n) (exact_den-pos (10 ^ 18) 0 n some) at c13 in
     let own = cosine_own (units x) n some in
@@ -199,14 +209,31 @@ pub has_small_sine : (x : ℤ) → unsigned_abs x ≤ 2 * 10 ^ 18 → HasSine (s
 unfolding small_sine
 has_small_sine x h =
     let px = units-fraction x in
-    let long = long_13 x 13 refl h in
-    let b = sine_bounds x 13 refl h (term_below_unit x 29 h (lit≤ tt)) in
+    let long = long_9 x 13 (lit≤ tt) h in
+    let b = sine_bounds x 13 (lit≤ tt) h (term_below_unit 2 x 29 h (lit≤ tt)) in
     record { at_least = sine_is_at_least (units x) _ 13 px long b.low; at_most = sine_is_at_most (units x) _ 13 px long b.high }
 
 pub has_small_cosine : (x : ℤ) → unsigned_abs x ≤ 2 * 10 ^ 18 → HasCosine (small_cosine x -ℤ pos 25) (small_cosine x +ℤ pos 25) (units x)
 unfolding small_cosine
 has_small_cosine x h =
     let px = units-fraction x in
-    let long = long_13 x 13 refl h in
-    let b = cosine_bounds x 13 refl h (term_below_unit x 28 h (lit≤ tt)) in
+    let long = long_9 x 13 (lit≤ tt) h in
+    let b = cosine_bounds x 13 (lit≤ tt) h (term_below_unit 2 x 28 h (lit≤ tt)) in
     record { at_least = cosine_is_at_least (units x) _ 13 px long b.low; at_most = cosine_is_at_most (units x) _ 13 px long b.high }
+
+-- ten terms do for 1
+pub has_short_sine : (x : ℤ) → unsigned_abs x ≤ 10 ^ 18 → HasSine (rounded_sum x (rounded_square x) 1 9 -ℤ pos 25) (rounded_sum x (rounded_square x) 1 9 +ℤ pos 25) (units x)
+has_short_sine x h =
+    let px = units-fraction x in
+    let g : unsigned_abs x ≤ 2 * 10 ^ 18 = omega arith in
+    let long = long_9 x 9 (lit≤ tt) g in
+    let b = sine_bounds x 9 (lit≤ tt) g (term_below_unit 1 x 21 (omega arith) (lit≤ tt)) in
+    record { at_least = sine_is_at_least (units x) _ 9 px long b.low; at_most = sine_is_at_most (units x) _ 9 px long b.high }
+
+pub has_short_cosine : (x : ℤ) → unsigned_abs x ≤ 10 ^ 18 → HasCosine (rounded_sum (pos (10 ^ 18)) (rounded_square x) 0 9 -ℤ pos 25) (rounded_sum (pos (10 ^ 18)) (rounded_square x) 0 9 +ℤ pos 25) (units x)
+has_short_cosine x h =
+    let px = units-fraction x in
+    let g : unsigned_abs x ≤ 2 * 10 ^ 18 = omega arith in
+    let long = long_9 x 9 (lit≤ tt) g in
+    let b = cosine_bounds x 9 (lit≤ tt) g (term_below_unit 1 x 20 (omega arith) (lit≤ tt)) in
+    record { at_least = cosine_is_at_least (units x) _ 9 px long b.low; at_most = cosine_is_at_most (units x) _ 9 px long b.high }

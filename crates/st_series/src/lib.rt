@@ -6,4 +6,4 @@
 pub mod laws;
 mod small;
 
-pub use small::sin_cos_small;
+pub use small::{cos_within_one, sin_cos_small, sin_within_one};

@@ -1,6 +1,7 @@
 pub mod Carried
-pub mod Twice
-pub mod Doubling
+pub mod Products
+pub mod Added
+pub mod Quarter
 pub mod Widths
 pub mod Doubled
 pub mod Reduced

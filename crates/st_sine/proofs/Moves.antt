@@ -1,6 +1,6 @@
 -- What the bounds of the sine in the formula at one t have to do with those at another: M changes by M1 e, and E by
 -- M1 e (1 + EB) and by the two gaps.
-use Rattle.std.proofs.Common.{ℕ, ◌*◌, ◌^◌, ◌<◌, ℤ, pos, neg_ℤ, ◌+ℤ◌, ◌*ℤ◌, ◌≤ℤ◌, arith, lit<, mul-pos}
+use Rattle.std.proofs.Common.{ℕ, ◌^◌, ◌<◌, ℤ, pos, neg_ℤ, ◌+ℤ◌, ◌*ℤ◌, ◌≤ℤ◌, arith, lit<, mul-pos}
 use Rattle.st_fraction.specs.Fraction.{Fraction, IsFraction, ◌≤ᶠ◌, units, ◌+ᶠ◌, ◌-ᶠ◌, ◌*ᶠ◌, IsNear}
 use Rattle.st_fraction.proofs.Ring.{ring, lin, le-mul_z, le-mul_nonneg}
 use Rattle.st_fraction.proofs.Order.{le_f_refl, le_f_trans, le_f_add, le_f_mul, le_of_near}
@@ -8,7 +8,7 @@ use Rattle.st_fraction.proofs.Scale.{at_self}
 use Rattle.st_fraction.proofs.Placed.{Placed, placed, plus, minus, product, finer, lowered, raised}
 use Rattle.st_series.specs.Series.{IsLongEnough, sine_lower, sine_upper}
 use Rattle.st_series.proofs.Sandwich.{sine_in_order, sine_lower-den, sine_upper-den}
-use Rattle.st_sine.specs.Anomaly.{mean_anomaly, low_anomaly, anomaly_gap, FitsAnomaly, AnomalySineIsAtLeast, AnomalySineIsAtMost}
+use Rattle.st_sine.specs.Anomaly.{mean_anomaly, low_anomaly, anomaly_gap}
 use Rattle.st_sine.specs.Laws.{anomaly_step, AnomalyLipschitz, AnomalyMoves}
 use Rattle.st_sine.proofs.Carried.{near_turned, sine_carried_low}
 use Rattle.st_sine.proofs.OneValue.{anomaly_narrows, dens}

@@ -15,7 +15,7 @@ use Rattle.st_series.proofs.Narrow.{long_from, sine_narrow}
 use Rattle.st_sine.specs.Anomaly.{mean_anomaly, low_anomaly, anomaly_gap}
 use Rattle.st_sine.specs.Laws.{AnomalyNarrows, AnomalyAgrees}
 use Rattle.st_fraction.proofs.Linear.{at_factor}
-use Rattle.st_sine.proofs.Doubling.{sliver, sliver-pos}
+use Rattle.st_sine.proofs.Added.{sliver, sliver-pos}
 
 -- What is no larger in magnitude has smaller terms, and is long enough where the other is.
 power_rises : (a b k : ℕ) → a ≤ b → a ^ k ≤ b ^ k

@@ -3,12 +3,9 @@ ghost use Rattle.st_fraction.specs.Fraction.{Fraction, units, ◌+ᶠ◌, ◌*�
 ghost use Rattle.st_enclosure.specs.Ends.{EndsAtMost};
 ghost use Rattle.st_sine.specs.Anomaly.{mean_anomaly, HasAnomalySine};
 
-use crate::angle::sin_cos;
 use crate::orbit::Orbit;
+use crate::quarters::sine_of;
 use st_enclosure::{Enc, UNIT};
-
-/// How often an angle is halved: 2^11 times 2 rad is beyond the anomaly at every accepted epoch.
-const HALVINGS: u32 = 11;
 
 /// An enclosure of sin E at `t`, which is TT in units past J2000, at most 6,311,500,000 s to either side; with
 /// `E = M + EB sin M` and `M = M0 + M1 t`. At most 42·10^7 units wide.
@@ -20,10 +17,9 @@ pub fn anomaly_sine(orbit: &Orbit, t: i128) -> Enc
     ensures ends { EndsAtMost result.lo result.hi (2 * 10 ^ 18) }
 {
     let mean = mean_of(orbit.m0, orbit.m1, t);
-    let (inner, _) = sin_cos(mean, HALVINGS);
+    let inner = sine_of(mean);
     let eccentric = eccentric_of(mean, inner, orbit.eb);
-    let (sine, _) = sin_cos(eccentric, HALVINGS);
-    sine
+    sine_of(eccentric)
 }
 
 // `M0 + M1 t`.
@@ -36,7 +32,7 @@ fn mean_of(m0: i128, m1: i128, t: i128) -> Enc
     requires high { t ≤ℤ pos (6311500000 * 10 ^ 18) }
     ensures contains { LiesWithin result.lo result.hi (mean_anomaly m0 m1 (units t)) }
     ensures narrow { (result.hi -ℤ result.lo) ≤ℤ pos 1 }
-    ensures ends { EndsAtMost result.lo result.hi (2600 * 10 ^ 18) }
+    ensures ends { EndsAtMost result.lo result.hi (2540 * 10 ^ 18) }
 {
     let turned = Enc::point(t).times_fraction(m1, UNIT);
     Enc::point(m0).add(turned)
@@ -44,7 +40,7 @@ fn mean_of(m0: i128, m1: i128, t: i128) -> Enc
 
 // `M + EB s`, for the sines `s` of `M`.
 fn eccentric_of(mean: Enc, sine: Enc, eb: i128) -> Enc
-    requires mean_ends { EndsAtMost mean.lo mean.hi (2600 * 10 ^ 18) }
+    requires mean_ends { EndsAtMost mean.lo mean.hi (2540 * 10 ^ 18) }
     requires sine_ends { EndsAtMost sine.lo sine.hi (2 * 10 ^ 18) }
     requires sine_narrow { (sine.hi -ℤ sine.lo) ≤ℤ pos (4 * 10 ^ 8) }
     requires mean_narrow { (mean.hi -ℤ mean.lo) ≤ℤ pos 1 }
@@ -52,7 +48,7 @@ fn eccentric_of(mean: Enc, sine: Enc, eb: i128) -> Enc
     requires eb_high { eb ≤ℤ pos (2 * 10 ^ 16) }
     ensures contains { (x s : Fraction) → LiesWithin mean.lo mean.hi x → LiesWithin sine.lo sine.hi s → LiesWithin result.lo result.hi (x +ᶠ s *ᶠ units eb) }
     ensures narrow { (result.hi -ℤ result.lo) ≤ℤ pos (10 ^ 7) }
-    ensures ends { EndsAtMost result.lo result.hi (2 * 10 ^ 18 * 2 ^ 11) }
+    ensures ends { EndsAtMost result.lo result.hi (2600 * 10 ^ 18) }
 {
     let inner = sine.times_fraction(eb, UNIT);
     mean.add(inner)
@@ -75,7 +71,7 @@ mod tests {
             let found = anomaly_sine(orbit, t);
             assert!(rt; found.lo <= sine.div_euclid(PARTS), "at {t}");
             assert!(rt; sine.div_euclid(PARTS) < found.hi, "at {t}");
-            assert!(rt; found.hi - found.lo <= 420_000_000, "at {t}");
+            assert!(rt; found.hi - found.lo <= 200_000, "at {t}");
         }
     }
 

@@ -19,6 +19,6 @@ returns-clause-contains c =
     let both = simp to_z-of_z at c.eccentric_of-eccentric.ensures.contains in
     let x = mean_anomaly o.m0 o.m1 (units c.args.t) in
     let px : 0 < x.den = mul-pos u (mul-pos u u) in
-    has_anomaly_sine o.eb o.m0 o.m1 (units c.args.t) c.sin_cos.result.0.lo c.sin_cos.result.0.hi c.sin_cos-2.result.0.lo c.sin_cos-2.result.0.hi
-    (record { positive = u }) o.eb_low c.sin_cos.result.0.ordered (c.sin_cos.ensures.sine x (record { positive = px }) mean)
-    (λ s ps h. c.sin_cos-2.ensures.sine (x +ᶠ s *ᶠ units o.eb) (record { positive = mul-pos px (mul-pos ps.positive u) }) (both x s mean h))
+    has_anomaly_sine o.eb o.m0 o.m1 (units c.args.t) c.sine_of-inner.result.lo c.sine_of-inner.result.hi c.sine_of.result.lo c.sine_of.result.hi
+    (record { positive = u }) o.eb_low c.sine_of-inner.result.ordered (c.sine_of-inner.ensures.sine x (record { positive = px }) mean)
+    (λ s ps h. c.sine_of.ensures.sine (x +ᶠ s *ᶠ units o.eb) (record { positive = mul-pos px (mul-pos ps.positive u) }) (both x s mean h))

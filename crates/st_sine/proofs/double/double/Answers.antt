@@ -1,6 +1,6 @@
 use Rattle.std.proofs.Common.{arith}
 use Rattle.std.proofs.lemmas.Int.{ints}
-use Rattle.st_sine.proofs.Doubling.{has_sine_doubled, has_cosine_doubled, product_turned}
+use Rattle.st_sine.proofs.Added.{has_sine_added, has_cosine_added, product_turned}
 use Rattle.st_sine.proofs.Widths.{product_ends_low, product_ends_high, product_width}
 use Rattle.st_sine.proofs.double.double.Goals as goal
 
@@ -38,15 +38,21 @@ sub-requires-clause-other_ends c =
 
 pub returns-clause-sine : goal.returns-clause-sine
 returns-clause-sine c z hs hc =
-    has_sine_doubled z c.args.sine.lo c.args.sine.hi c.args.cosine.lo c.args.cosine.hi _ _ c.args.sine.ordered c.args.cosine.ordered c.requires.sine_ends c.requires.cosine_ends hs hc
-    (λ s k hs2 hc2.
-    let p = c.mul_unit-product.ensures.contains s k hs2 hc2 in
-    c.add.ensures.contains _ _ p (product_turned _ _ s k p))
+    let so = c.args.sine.ordered in
+    let co = c.args.cosine.ordered in
+    let se = c.requires.sine_ends in
+    let ce = c.requires.cosine_ends in
+    has_sine_added z z c.args.sine.lo c.args.sine.hi c.args.cosine.lo c.args.cosine.hi c.args.sine.lo c.args.sine.hi c.args.cosine.lo c.args.cosine.hi _ _ so co so co se ce se ce hs hc hs hc
+    (λ s k p q hs2 hk2 hp2 hq2. c.add.ensures.contains _ _ (c.mul_unit-product.ensures.contains s q hs2 hq2) (product_turned _ _ p k (c.mul_unit-product.ensures.contains p k hp2 hk2)))
 
 pub returns-clause-cosine : goal.returns-clause-cosine
 returns-clause-cosine c z hs hc =
-    has_cosine_doubled z c.args.sine.lo c.args.sine.hi c.args.cosine.lo c.args.cosine.hi _ _ c.args.sine.ordered c.args.cosine.ordered c.requires.sine_ends c.requires.cosine_ends hs hc
-    (λ s k hs2 hc2. c.sub.ensures.contains _ _ (c.mul_unit-cosine_square.ensures.contains k k hc2 hc2) (c.mul_unit-sine_square.ensures.contains s s hs2 hs2))
+    let so = c.args.sine.ordered in
+    let co = c.args.cosine.ordered in
+    let se = c.requires.sine_ends in
+    let ce = c.requires.cosine_ends in
+    has_cosine_added z z c.args.sine.lo c.args.sine.hi c.args.cosine.lo c.args.cosine.hi c.args.sine.lo c.args.sine.hi c.args.cosine.lo c.args.cosine.hi _ _ so co so co se ce se ce hs hc hs hc
+    (λ s k p q hs2 hk2 hp2 hq2. c.sub.ensures.contains _ _ (c.mul_unit-cosine_square.ensures.contains k q hk2 hq2) (c.mul_unit-sine_square.ensures.contains s p hs2 hp2))
 
 pub returns-clause-sine_narrow : goal.returns-clause-sine_narrow
 returns-clause-sine_narrow c w h n =
