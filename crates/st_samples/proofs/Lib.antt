@@ -1,0 +1,3 @@
+mod Examples
+pub mod LabelLaws
+pub mod SummaryLaws
