@@ -2,7 +2,7 @@
 use Rattle.std.proofs.Common.{◌≡◌, ℕ, [], ◌∷◌, refl}
 use Rattle.std.specs.Prelude.{codes}
 use Rattle.st_samples.specs.Generator.{x_of, seconds, milliseconds}
-use Rattle.st_samples.specs.SampleLine.{seconds_text, clock_text}
+use Rattle.st_samples.specs.SampleLine.{clock_text}
 use Rattle.st_samples.specs.Summary.{text, refusal, summary_of, summary_text}
 
 abbrev first : ℕ
@@ -21,9 +21,6 @@ whole_seconds = refl
 
 behind_them : milliseconds first ≡ 513
 behind_them = refl
-
-first_line : seconds_text first ≡ codes "1471672182.513"
-first_line = refl
 
 last_of_day : clock_text 86_399_999 ≡ codes "23:59:59.999"
 last_of_day = refl

@@ -1,6 +1,7 @@
 -- A sample's label has one text.
-use Rattle.std.proofs.Common.{◌≡◌, ℕ, ◌*◌, ◌^◌, ℤ, pos, List, ◌∷◌, ◌++◌, Result, Ok, Err, sym, ap, ◌∙◌, subst, arith}
+use Rattle.std.proofs.Common.{◌≡◌, ℕ, ◌*◌, ◌^◌, ℤ, pos, ◌≤ℤ◌, FitsSigned, to_z, of_z, to_z-of_z, w32, List, Result, Ok, Err, sym, ap, ◌∙◌, subst, arith}
 use Rattle.std.specs.Prelude.{IfOk}
+use Rattle.std.proofs.lemmas.Int.{ints}
 use Rattle.st_dates.specs.Civil.{IsCivil}
 use Rattle.st_dates.specs.Label.{formal, IsPlainLabel}
 use Rattle.st_dates.specs.declared.civil.Civil.{Civil}
@@ -17,6 +18,13 @@ one_text label a b h k =
     ∙ ap (λ (c : Civil). label_text c h.passed) (one_civil label.day h.civil k.civil h.date k.date)
     ∙ ap (λ (p : ℕ). label_text k.civil p) (same_count h.passed k.passed (sym h.time ∙ k.time))
     ∙ sym k.whole
+
+-- its day is a number of 32 bits
+pub same_day : (day : ℤ) → pos 0 ≤ℤ day → day ≤ℤ pos 24_856 → to_z w32 (of_z w32 day) ≡ day
+same_day day from to = let fits : FitsSigned w32 day = omega (arith, ints) in to_z-of_z fits
+
+pub its_date : (day : ℤ) (civil : Civil) → pos 0 ≤ℤ day → day ≤ℤ pos 24_856 → IsCivil (to_z w32 (of_z w32 day)) civil → IsCivil day civil
+its_date day civil from to = subst (λ (d : ℤ). IsCivil d civil) (same_day day from to)
 
 -- what is made of the label and its date is the line
 pub line_is : {E : Type 0} (r : Result (List ℕ) E) (x passed : ℕ) (label : Label) (civil : Civil) → IsPlainLabel label → formal label ≡ count_of x

@@ -1,9 +1,9 @@
 //! The summary of the answers to samples.
 
-ghost use Rattle.std.specs.Prelude.{◌≡◌, ◌+◌, ◌<◌, ◌%◌, ◌^◌, [], ◌∷◌, ◌++◌, List, OnOk, OnErr};
+ghost use Rattle.std.specs.Prelude.{◌≡◌, ◌+◌, ◌<◌, ◌%◌, ◌^◌, [], ◌++◌, OnOk, OnErr};
 ghost use Rattle.std.specs.List.{sum};
 ghost use Rattle.st_text.specs.Bytes.{decimal_digits};
-ghost use Rattle.st_samples.specs.Summary.{refusal, summary_of, summary_text, text, with_answer, AnswerLine};
+ghost use Rattle.st_samples.specs.Summary.{refusal, summary_of, summary_text, text, with_answer};
 
 use st_decimal::OutOfMemory;
 use st_text::put_padded;
@@ -61,9 +61,7 @@ impl Summary {
     /// Counts a line that was answered by a text, which is given without its line feed.
     pub fn add_text(&mut self, answer: &[u8])
         requires { self.old.lines < MOST_LINES }
-        ensures one { self.new ≡ with_answer self.old (text answer.now) }
-        ensures all { (answers : List AnswerLine) → self.old ≡ summary_of answers
-            → self.new ≡ summary_of (answers ++ text answer.now ∷ []) }
+        ensures { self.new ≡ with_answer self.old (text answer.now) }
     {
         self.texts += 1;
         self.bytes = plus_bytes(self.bytes, answer);
@@ -72,9 +70,7 @@ impl Summary {
     /// Counts a line that was refused, by the whole line that says so, without its line feed.
     pub fn add_refusal(&mut self, line: &[u8])
         requires { self.old.lines < MOST_LINES }
-        ensures one { self.new ≡ with_answer self.old (refusal line.now) }
-        ensures all { (answers : List AnswerLine) → self.old ≡ summary_of answers
-            → self.new ≡ summary_of (answers ++ refusal line.now ∷ []) }
+        ensures { self.new ≡ with_answer self.old (refusal line.now) }
     {
         self.refused += 1;
         self.bytes = plus_bytes(self.bytes, line);
