@@ -1,8 +1,8 @@
 -- The parts of a sample's date are few digits each: its year has at most four, and its month and day two.
-use Rattle.std.proofs.Common.{◌≡◌, ℕ, zero, suc, ◌+◌, ◌*◌, ◌<◌, ◌≤◌, refl, arith, ℤ, pos, ◌-ℤ◌, ◌≤ℤ◌}
+use Rattle.std.proofs.Common.{◌≡◌, ℕ, zero, suc, ◌+◌, ◌*◌, ◌<◌, ◌≤◌, refl, arith, ℤ, pos, ◌≤ℤ◌}
 use Rattle.std.proofs.lemmas.Bool.Decides.{nat_tests}
 use Rattle.std.proofs.lemmas.Int.{ints}
-use Rattle.st_dates.specs.Calendar.{year_length, month_length, days_before_year, days_of_months, day_number, IsCalendarDay}
+use Rattle.st_dates.specs.Calendar.{year_length, month_length, days_before_year, day_number}
 
 year_least : (y : ℕ) → 365 ≤ year_length y
 year_least y = grind (arith, nat_tests)

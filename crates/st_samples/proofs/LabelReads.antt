@@ -1,30 +1,27 @@
 -- The label of each sample is read.
-use Rattle.std.proofs.Common.{◌≡◌, ℕ, ◌+◌, ◌*◌, ◌/◌, ◌%◌, ◌^◌, ◌<◌, ◌≤◌, true, inl, refl, sym, ap, ◌∙◌, subst, arith, ℤ, pos, ◌*ℤ◌, ◌<ℤ◌, ◌≤ℤ◌, List, [], ◌∷◌, ◌++◌, length, append_assoc, Ok, unsigned_abs}
+use Rattle.std.proofs.Common.{◌≡◌, ℕ, ◌*◌, ◌/◌, ◌%◌, ◌^◌, ◌<◌, ◌≤◌, true, inl, refl, sym, ap, ◌∙◌, subst, arith, ℤ, pos, ◌≤ℤ◌, List, ◌∷◌, ◌++◌, unsigned_abs}
 use Rattle.std.specs.Prelude.{codes}
 use Rattle.std.specs.List.{list_all}
 use Rattle.std.proofs.lemmas.Int.{ints}
 use Rattle.std.proofs.lemmas.List.{append-nil}
-use Rattle.st_text.specs.Bytes.{padded, number_of, are_digits}
+use Rattle.st_text.specs.Bytes.{padded}
 use Rattle.st_text.specs.Lines.{trimmed}
 use Rattle.st_text.proofs.Spelled.{number_of-padded, are_digits-padded}
-use Rattle.st_dates.specs.Calendar.{IsCalendarDay, day_number, month_length}
 use Rattle.st_dates.specs.Civil.{IsCivil}
 use Rattle.st_dates.specs.DayText.{IsDayOf}
-use Rattle.st_dates.specs.Label.{formal, units, IsPlainLabel}
+use Rattle.st_dates.specs.Label.{formal, IsPlainLabel}
 use Rattle.st_dates.specs.Names.{AreSameLetters}
 use Rattle.st_dates.specs.Range.{IsInRange}
-use Rattle.st_dates.specs.TimeText.{Clock, decimals, IsField, AreClockParts, TimeText, after_mark, clock_spelling, minute_of, second_units, time_units}
+use Rattle.st_dates.specs.TimeText.{Clock, decimals, IsField, AreClockParts, after_mark, minute_of, second_units, time_units}
 use Rattle.st_dates.specs.declared.civil.Civil.{Civil}
 use Rattle.st_dates.specs.declared.label.Label.{Label}
 use Rattle.st_forms.specs.DateForm.{DateText, year_month_day, AreDateParts, day_text}
-use Rattle.st_forms.specs.Reading.{Written, calendar, spelling, IsLabelOf}
+use Rattle.st_forms.specs.Reading.{calendar, spelling, IsLabelOf}
 use Rattle.st_forms.specs.Scale.{unnamed}
-use Rattle.st_forms.specs.TimeForm.{IsNoSecond}
 use Rattle.st_forms.specs.WordMachine.{is_no_blank}
 use Rattle.st_forms.proofs.Tails.{digits_blankless, blankless_both}
-use Rattle.st_samples.specs.Generator.{seconds, milliseconds}
 use Rattle.st_samples.specs.Laws.{LabelsAreRead}
-use Rattle.st_samples.specs.SampleLine.{count_of, date_text, clock_text, label_text, IsLabelLine}
+use Rattle.st_samples.specs.SampleLine.{count_of, date_text, clock_text, label_text}
 use Rattle.st_samples.proofs.DateParts.{year_few, month_few}
 use Rattle.st_samples.proofs.ReadLaws.{digits_are, in_range, kept, milliseconds_are}
 

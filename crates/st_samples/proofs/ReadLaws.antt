@@ -1,22 +1,19 @@
 -- The lines of samples are read.
-use Rattle.std.proofs.Common.{◌≡◌, ◌≢◌, ℕ, ◌+◌, ◌-◌, ◌*◌, ◌/◌, ◌%◌, ◌^◌, ◌<◌, ◌≤◌, true, false, inl, inr, refl, sym, ap, ◌∙◌, subst, arith, ℤ, pos, ◌*ℤ◌, ◌<ℤ◌, ◌≤ℤ◌, List, [], ◌∷◌, ◌++◌, length, length-append, Some, None, Ok, unsigned_abs}
+use Rattle.std.proofs.Common.{◌≡◌, ℕ, ◌+◌, ◌-◌, ◌*◌, ◌^◌, ◌<◌, ◌≤◌, true, inl, refl, sym, ap, ◌∙◌, arith, pos, List, [], ◌∷◌, length, length-append, Some}
 use Rattle.std.proofs.lemmas.List.{length-replicate, length-map}
-use Rattle.std.specs.Prelude.{codes}
 use Rattle.std.specs.List.{list_all}
 use Rattle.std.proofs.lemmas.Grind.{common_steps}
 use Rattle.std.proofs.lemmas.Int.{ints}
-use Rattle.st_text.specs.Bytes.{padded, decimal_digits, number_of, are_digits, is_blank, are_blanks}
+use Rattle.st_text.specs.Bytes.{padded, decimal_digits, number_of}
 use Rattle.st_text.specs.Lines.{skip_blanks, without_end_blanks, trimmed}
 use Rattle.st_text.specs.Scan.{IsDigitRun}
 use Rattle.st_text.proofs.Logic.{and-left, and-right}
 use Rattle.st_text.proofs.Spelled.{number_of-padded, length-padded, are_digits-padded}
 use Rattle.st_dates.specs.Decimals.{units_of_decimals}
-use Rattle.st_dates.specs.Label.{formal, IsPlainLabel}
 use Rattle.st_dates.specs.Range.{IsInRange}
-use Rattle.st_dates.specs.declared.label.Label.{Label}
 use Rattle.st_forms.specs.WordMachine.{is_no_blank}
-use Rattle.st_forms.specs.NumberForm.{NumberText, AreNumberParts, number_units, number_spelling}
-use Rattle.st_forms.specs.Reading.{plain, spelling}
+use Rattle.st_forms.specs.NumberForm.{NumberText, number_units}
+use Rattle.st_forms.specs.Reading.{plain}
 use Rattle.st_forms.proofs.Tails.{digits_blankless, blankless_both}
 use Rattle.st_samples.specs.Generator.{seconds, milliseconds}
 use Rattle.st_samples.specs.Laws.{SecondsAreRead}

@@ -2,7 +2,7 @@
 use Rattle.std.proofs.Common.{◌≡◌, ℕ, ◌+◌, ◌%◌, ◌^◌, ◌<◌, List, [], ◌∷◌, ◌++◌, length, take, get_or, cond, ap, sym, ◌∙◌, arith, length-append}
 use Rattle.std.proofs.lemmas.List.{take_more}
 use Rattle.std.proofs.lemmas.List.Sums.{sum_by_push}
-use Rattle.std.specs.List.{count_by, sum, sum_by}
+use Rattle.std.specs.List.{sum, sum_by}
 use Rattle.st_samples.specs.Laws.{SummaryGrows}
 use Rattle.st_samples.specs.Summary.{AnswerLine, text, refusal, is_text, is_refusal, bytes_sum, Summary, summary_of, with_answer}
 

@@ -45,7 +45,7 @@ with_answer s (text bytes) =
 with_answer s (refusal bytes) =
     record { lines = s.lines + 1; texts = s.texts; refused = s.refused + 1; bytes = (s.bytes + sum bytes) % 2 ^ 32 }
 
--- `sample 3 texts 2 refused 1 sum 871`, without a line feed
+-- `sample 2 texts 1 refused 1 sum 2605`, without a line feed
 abbrev pub summary_text : Summary → List ℕ
 summary_text s =
     codes "sample " ++ (decimal_digits s.lines

@@ -77,7 +77,7 @@ impl Summary {
     }
 }
 
-/// Appends a summary as `sample 3 texts 2 refused 1 sum 871`, without a line feed.
+/// Appends a summary as `sample 2 texts 1 refused 1 sum 2605`, without a line feed.
 ///
 /// # Errors
 ///

@@ -1,6 +1,6 @@
 //! Rows that were computed outside, with Python's integers and `datetime`.
 
-use crate::{Summary, label_line, next, put_summary, seconds_line, tick_line, tick_of};
+use crate::{MOST_LINES, Summary, label_line, next, put_summary, seconds_line, tick_line, tick_of};
 use std::test::Fail;
 
 #[test]
@@ -28,13 +28,16 @@ fn makes_lines(rt: HostRuntime) -> Result<(), Fail> {
 #[test]
 fn sums_answers_up(rt: HostRuntime) -> Result<(), Fail> {
     let mut summary = Summary::new();
-    summary.add_text(b"1471672214.697000");
-    assert!(rt; summary.lines() < 1_000_000);
-    summary.add_refusal(b"refused OUT_OF_RANGE");
-    assert_eq!(rt; summary.refused(), 1);
     let mut out = Vec::new(rt.alloc());
+    assert!(rt; summary.lines() < MOST_LINES);
+    summary.add_text(b"1471672214.697000");
     put_summary(&mut out, &summary)?;
-    let wanted = b"sample 2 texts 1 refused 1 sum 2605";
+    out.push(b'\n')?;
+    assert!(rt; summary.lines() < MOST_LINES);
+    summary.add_refusal(b"refused OUT_OF_RANGE");
+    put_summary(&mut out, &summary)?;
+    let wanted = b"sample 1 texts 1 refused 0 sum 871\nsample 2 texts 1 refused 1 sum 2605";
     assert_eq!(rt; out.as_slice(), wanted.as_slice());
+    assert_eq!(rt; summary.refused(), 1);
     Ok(())
 }
