@@ -1,7 +1,7 @@
 //! Samples: large valid inputs that a number makes, and the summary of their answers.
 //!
-//! The seed is x(0) of a generator, and each `next` gives the x of one more line: as plain seconds, as the label of a
-//! calendar, or as a tick of a spacecraft clock. The readers of times take each of these lines.
+//! The seed is x(0) of a generator, and each `next` gives the x of one more line: as plain seconds, as a label of the
+//! calendar, or as a tick of a spacecraft clock. The reader of times takes each line of the first two.
 #![tactic(auto)]
 
 mod generator;
