@@ -1,0 +1,6 @@
+pub mod DateParts
+mod Examples
+pub mod LabelLaws
+pub mod LabelReads
+pub mod ReadLaws
+pub mod SummaryLaws
