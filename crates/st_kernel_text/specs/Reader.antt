@@ -18,7 +18,7 @@ FedTo bytes None reading = fed_of bytes ≡ Ok reading
 FedTo bytes (Some (At n cause)) reading = fed_of bytes ≡ fails n cause
 FedTo bytes (Some OutOfMemory) reading = ⊤
 
--- the reader was fed these bytes since it was made; where memory was refused to it nothing is
--- known of them
+-- The reader was fed these bytes since it was made: a new one none, and each feeding one more piece,
+-- which is all that callers need of it. Where memory was refused nothing is known of the bytes.
 abbrev pub Fed : List ℕ → Reader → Type 0
 Fed bytes reader = FedTo bytes reader.failed reader.reading

@@ -1,6 +1,6 @@
 //! Batches from UTC to TAI with the setup `naif.tls`: the lines of the input, and their answers.
 
-use crate::rows::{Failing, SAFE, batch, folder, run_batch, run_row};
+use crate::rows::{Outside, SAFE_AND_SHORT, SHORT, batch, folder, run_batch, run_row};
 use st_batch::{LineFault, Status};
 use std::alloc::Global;
 use std::test::Fail;
@@ -117,9 +117,11 @@ fn sessions(rt: HostRuntime) -> Result<(), Fail> {
             add_line(&mut lines, line)?;
             add_line(&mut answers, answer)?;
         }
-        let (status, output) = run_batch(alloc, lines.as_slice())?;
-        assert_eq!(rt; status, wanted, "{name}");
-        assert_eq!(rt; output.as_slice(), answers.as_slice(), "{name}");
+        for outside in SAFE_AND_SHORT {
+            let (status, output) = run_batch(alloc, lines.as_slice(), outside)?;
+            assert_eq!(rt; status, wanted, "{name}");
+            assert_eq!(rt; output.as_slice(), answers.as_slice(), "{name}");
+        }
     }
     Ok(())
 }
@@ -148,9 +150,11 @@ const ENDS_OF_LINES: [(&str, &str, &str); 2] = [
 #[test]
 fn ends_of_lines(rt: HostRuntime) -> Result<(), Fail> {
     for (name, lines, wanted) in ENDS_OF_LINES {
-        let (status, output) = run_batch(rt.alloc(), lines.as_bytes())?;
-        assert_eq!(rt; status, Status::SomeRefused, "{name}");
-        assert_eq!(rt; output.as_slice(), wanted.as_bytes(), "{name}");
+        for outside in SAFE_AND_SHORT {
+            let (status, output) = run_batch(rt.alloc(), lines.as_bytes(), outside)?;
+            assert_eq!(rt; status, Status::SomeRefused, "{name}");
+            assert_eq!(rt; output.as_slice(), wanted.as_bytes(), "{name}");
+        }
     }
     Ok(())
 }
@@ -182,7 +186,7 @@ fn lines_longer_than_a_line_may_be(rt: HostRuntime) -> Result<(), Fail> {
         let rest = repeated(alloc, "x", count.saturating_sub(1))?;
         line.extend_from_slice(rest.as_slice())?;
         line.extend_from_slice(b"\r\n")?;
-        let (_, output) = run_batch(alloc, line.as_slice())?;
+        let (_, output) = run_batch(alloc, line.as_slice(), SHORT)?;
         assert_eq!(rt; output.as_slice(), wanted.as_bytes(), "{first} {count}");
     }
     Ok(())
@@ -194,12 +198,12 @@ fn names_longer_than_a_name_may_be(rt: HostRuntime) -> Result<(), Fail> {
     for (count, wanted) in [(255, "refused NO_FILE\n"), (256, "refused BAD_COMMAND\n")] {
         let mut line = repeated(alloc, "$load ", 1)?;
         line.extend_from_slice(repeated(alloc, "n", count)?.as_slice())?;
-        let (_, output) = run_batch(alloc, line.as_slice())?;
+        let (_, output) = run_batch(alloc, line.as_slice(), SHORT)?;
         assert_eq!(rt; output.as_slice(), wanted.as_bytes(), "{count}");
     }
     let mut line = repeated(alloc, "$load ", 1)?;
     line.push(0xff)?;
-    let (_, output) = run_batch(alloc, line.as_slice())?;
+    let (_, output) = run_batch(alloc, line.as_slice(), SHORT)?;
     assert_eq!(rt; output.as_slice(), b"refused BAD_COMMAND\n".as_slice());
     Ok(())
 }
@@ -211,9 +215,11 @@ fn a_thousand_kernels(rt: HostRuntime) -> Result<(), Fail> {
     let mut wanted = repeated(alloc, "loaded\n", 999)?;
     let refused = repeated(alloc, "refused TOO_MANY_KERNELS\n", 2)?;
     wanted.extend_from_slice(refused.as_slice())?;
-    let (status, output) = run_batch(alloc, lines.as_slice())?;
-    assert_eq!(rt; status, Status::SomeRefused);
-    assert_eq!(rt; output.as_slice(), wanted.as_slice());
+    for outside in SAFE_AND_SHORT {
+        let (status, output) = run_batch(alloc, lines.as_slice(), outside)?;
+        assert_eq!(rt; status, Status::SomeRefused);
+        assert_eq!(rt; output.as_slice(), wanted.as_slice());
+    }
     Ok(())
 }
 
@@ -235,15 +241,17 @@ fn thousands_of_values(alloc: Global, count: usize) -> Result<Vec<u8>, Fail> {
 fn two_million_values(rt: HostRuntime) -> Result<(), Fail> {
     let alloc = rt.alloc();
     let words = batch(alloc)?;
-    let mut map = folder(alloc)?;
-    map.put(b"million.ker", thousands_of_values(alloc, 1000)?)?;
     // Without the setup's values two million have room, and not one more.
     let lines =
         b"$unload naif.tls\n$load million.ker\n$load million.ker\n$load more.tls\n$load plain.ker\n";
-    let (status, output) = run_row(alloc, words.as_slice(), map, lines, SAFE)?;
-    assert_eq!(rt; status, Status::SomeRefused);
     let wanted = b"unloaded\nloaded\nloaded\nrefused TOO_MANY_VALUES\nloaded\n";
-    assert_eq!(rt; output.as_slice(), wanted.as_slice());
+    for outside in SAFE_AND_SHORT {
+        let mut map = folder(alloc)?;
+        map.put(b"million.ker", thousands_of_values(alloc, 1000)?)?;
+        let (status, output) = run_row(alloc, words.as_slice(), map, lines, outside)?;
+        assert_eq!(rt; status, Status::SomeRefused);
+        assert_eq!(rt; output.as_slice(), wanted.as_slice());
+    }
     Ok(())
 }
 
@@ -251,13 +259,16 @@ fn two_million_values(rt: HostRuntime) -> Result<(), Fail> {
 fn a_file_that_is_too_long(rt: HostRuntime) -> Result<(), Fail> {
     let alloc = rt.alloc();
     let words = batch(alloc)?;
-    let mut map = folder(alloc)?;
-    map.put(b"long.ker", vec![in alloc; b' '; 16_777_217]?)?;
+    // Its one line is too long as well, which its length comes before.
     let lines = b"$load long.ker\n2017-06-01T00:00:00\n";
-    let (status, output) = run_row(alloc, words.as_slice(), map, lines, SAFE)?;
-    assert_eq!(rt; status, Status::SomeRefused);
     let wanted = b"refused FILE_TOO_LONG\n549547237.000000\n";
-    assert_eq!(rt; output.as_slice(), wanted.as_slice());
+    for outside in SAFE_AND_SHORT {
+        let mut map = folder(alloc)?;
+        map.put(b"long.ker", vec![in alloc; b' '; 16_777_217]?)?;
+        let (status, output) = run_row(alloc, words.as_slice(), map, lines, outside)?;
+        assert_eq!(rt; status, Status::SomeRefused);
+        assert_eq!(rt; output.as_slice(), wanted.as_slice());
+    }
     Ok(())
 }
 
@@ -267,7 +278,7 @@ fn lines_cut_by_the_reads(rt: HostRuntime) -> Result<(), Fail> {
     // 84,000 bytes, of which a read gives at most 65,536.
     let lines = repeated(alloc, "2017-06-01T00:00:00\r\n", 4000)?;
     let wanted = repeated(alloc, "549547237.000000\n", 4000)?;
-    let (status, output) = run_batch(alloc, lines.as_slice())?;
+    let (status, output) = run_batch(alloc, lines.as_slice(), SHORT)?;
     assert_eq!(rt; status, Status::Done);
     assert_eq!(rt; output.as_slice(), wanted.as_slice());
     Ok(())
@@ -277,37 +288,41 @@ fn lines_cut_by_the_reads(rt: HostRuntime) -> Result<(), Fail> {
 const TWO_LINES: &[u8] = b"$load short.tls\n2017-06-01T00:00:00";
 
 /// The status and the output of the two lines, where one call of the files fails.
-fn with_failing_file(alloc: Global, call: u32) -> Result<(Status, Vec<u8>), Fail> {
-    let words = batch(alloc)?;
-    let failing = Failing {
+fn with_failing_file(
+    alloc: Global,
+    call: u32,
+    outside: Outside,
+) -> Result<(Status, Vec<u8>), Fail> {
+    let failing = Outside {
         files: call,
-        input: 0,
-        output: 0,
+        ..outside
     };
-    run_row(alloc, words.as_slice(), folder(alloc)?, TWO_LINES, failing)
+    run_batch(alloc, TWO_LINES, failing)
 }
 
 #[test]
 fn faulty_loads(rt: HostRuntime) -> Result<(), Fail> {
     let alloc = rt.alloc();
-    // The first calls are those of the setup. The first one that `$load` makes opens its file, and the next one reads.
-    let mut opening = 0;
-    for call in 1..100 {
-        let (status, _) = with_failing_file(alloc, call)?;
-        if status == Status::SomeRefused {
-            opening = call;
-            break;
+    for outside in SAFE_AND_SHORT {
+        // The first calls are those of the setup. The first one that `$load` makes opens its file, and the next one reads.
+        let mut opening = 0;
+        for call in 1..4000 {
+            let (status, _) = with_failing_file(alloc, call, outside)?;
+            if status == Status::SomeRefused {
+                opening = call;
+                break;
+            }
+            assert_eq!(rt; status, Status::BadSetup(LineFault::FileFault), "{call}");
         }
-        assert_eq!(rt; status, Status::BadSetup(LineFault::FileFault), "{call}");
-    }
-    for failing in [opening, opening.saturating_add(1)] {
-        let (status, output) = with_failing_file(alloc, failing)?;
-        assert_eq!(rt; status, Status::SomeRefused, "{failing}");
-        assert_eq!(rt;
-            output.as_slice(),
-            b"refused FILE_FAULT\n549547237.000000\n".as_slice(),
-            "{failing}"
-        );
+        for failing in [opening, opening.saturating_add(1)] {
+            let (status, output) = with_failing_file(alloc, failing, outside)?;
+            assert_eq!(rt; status, Status::SomeRefused, "{failing}");
+            assert_eq!(rt;
+                output.as_slice(),
+                b"refused FILE_FAULT\n549547237.000000\n".as_slice(),
+                "{failing}"
+            );
+        }
     }
     Ok(())
 }
@@ -337,26 +352,21 @@ const FAULTS: [(u32, u32, Status, &str); 5] = [
 #[test]
 fn faults_of_the_outside(rt: HostRuntime) -> Result<(), Fail> {
     let alloc = rt.alloc();
-    let words = batch(alloc)?;
     for (read_call, write_call, wanted, written) in FAULTS {
-        let failing = Failing {
-            files: 0,
-            input: read_call,
-            output: write_call,
-        };
-        let (status, output) = run_row(
-            alloc,
-            words.as_slice(),
-            folder(alloc)?,
-            FIVE_LINES,
-            failing,
-        )?;
-        assert_eq!(rt; status, wanted, "{read_call} {write_call}");
-        assert_eq!(rt;
-            output.as_slice(),
-            written.as_bytes(),
-            "{read_call} {write_call}"
-        );
+        for outside in SAFE_AND_SHORT {
+            let failing = Outside {
+                input: read_call,
+                output: write_call,
+                ..outside
+            };
+            let (status, output) = run_batch(alloc, FIVE_LINES, failing)?;
+            assert_eq!(rt; status, wanted, "{read_call} {write_call}");
+            assert_eq!(rt;
+                output.as_slice(),
+                written.as_bytes(),
+                "{read_call} {write_call}"
+            );
+        }
     }
     Ok(())
 }

@@ -1,6 +1,6 @@
 //! Conversions from UTC to TAI with `naif.tls`.
 
-use crate::rows::{SAFE, files, run_row, to_tai};
+use crate::rows::{SAFE_AND_SHORT, files, run_row, to_tai};
 use st_batch::Status;
 use std::test::Fail;
 
@@ -25,9 +25,11 @@ fn conversions(rt: HostRuntime) -> Result<(), Fail> {
     let alloc = rt.alloc();
     for (time, wanted) in ROWS {
         let words = to_tai(alloc, time)?;
-        let (status, output) = run_row(alloc, words.as_slice(), files(alloc)?, b"", SAFE)?;
-        assert_eq!(rt; status, Status::Done, "{time}");
-        assert_eq!(rt; output.as_slice(), wanted.as_bytes(), "{time}");
+        for outside in SAFE_AND_SHORT {
+            let (status, output) = run_row(alloc, words.as_slice(), files(alloc)?, b"", outside)?;
+            assert_eq!(rt; status, Status::Done, "{time}");
+            assert_eq!(rt; output.as_slice(), wanted.as_bytes(), "{time}");
+        }
     }
     Ok(())
 }

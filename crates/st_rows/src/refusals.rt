@@ -1,6 +1,6 @@
 //! Refused words, setups and times, and faults of the outside.
 
-use crate::rows::{Failing, SAFE, files, run_row, to_tai, words};
+use crate::rows::{Outside, SAFE, SAFE_AND_SHORT, SHORT, files, run_row, to_tai, words};
 use st_batch::{LineFault, Status, WordFault};
 use st_outside::FileMap;
 use std::test::Fail;
@@ -26,7 +26,7 @@ fn refused_times(rt: HostRuntime) -> Result<(), Fail> {
     let alloc = rt.alloc();
     for time in NO_TIMES {
         let words = to_tai(alloc, time)?;
-        let (status, output) = run_row(alloc, words.as_slice(), files(alloc)?, b"", SAFE)?;
+        let (status, output) = run_row(alloc, words.as_slice(), files(alloc)?, b"", SHORT)?;
         assert_eq!(rt; status, Status::SomeRefused, "{time}");
         assert_eq!(rt;
             output.as_slice(),
@@ -53,25 +53,26 @@ const NO_TABLES: [&str; 11] = [
 ];
 
 /// How a conversion of noon on 2000-01-01 ends with a setup file of these bytes, and what it writes.
-fn with_setup(rt: &HostRuntime, setup: Vec<u8>) -> Result<(Status, Vec<u8>), Fail> {
+fn with_setup(rt: &HostRuntime, setup: &[u8], outside: Outside) -> Result<(Status, Vec<u8>), Fail> {
     let alloc = rt.alloc();
     let words = to_tai(alloc, "2000-01-01T12:00:00")?;
     let mut map = FileMap::new(alloc);
-    map.put(b"naif.tls", setup)?;
-    run_row(alloc, words.as_slice(), map, b"", SAFE)
+    map.put(b"naif.tls", Vec::from_slice(alloc, setup)?)?;
+    run_row(alloc, words.as_slice(), map, b"", outside)
 }
 
 #[test]
 fn setups_without_a_table(rt: HostRuntime) -> Result<(), Fail> {
     for setup in NO_TABLES {
-        let bytes = Vec::from_slice(rt.alloc(), setup.as_bytes())?;
-        let (status, output) = with_setup(&rt, bytes)?;
-        assert_eq!(rt; status, Status::SomeRefused, "{setup}");
-        assert_eq!(rt;
-            output.as_slice(),
-            b"refused NOT_BUILT\n".as_slice(),
-            "{setup}"
-        );
+        for outside in SAFE_AND_SHORT {
+            let (status, output) = with_setup(&rt, setup.as_bytes(), outside)?;
+            assert_eq!(rt; status, Status::SomeRefused, "{setup}");
+            assert_eq!(rt;
+                output.as_slice(),
+                b"refused NOT_BUILT\n".as_slice(),
+                "{setup}"
+            );
+        }
     }
     Ok(())
 }
@@ -117,17 +118,19 @@ const NO_KERNELS: [(&str, &str); 10] = [
 #[test]
 fn setups_that_are_no_kernels(rt: HostRuntime) -> Result<(), Fail> {
     for (setup, wanted) in NO_KERNELS {
-        let bytes = Vec::from_slice(rt.alloc(), setup.as_bytes())?;
-        let (status, output) = with_setup(&rt, bytes)?;
-        assert!(rt; matches!(status, Status::BadSetup(_)), "{setup}");
-        assert_eq!(rt; output.as_slice(), wanted.as_bytes(), "{setup}");
+        for outside in SAFE_AND_SHORT {
+            let (status, output) = with_setup(&rt, setup.as_bytes(), outside)?;
+            assert!(rt; matches!(status, Status::BadSetup(_)), "{setup}");
+            assert_eq!(rt; output.as_slice(), wanted.as_bytes(), "{setup}");
+        }
     }
-    let long = vec![in rt.alloc(); b'x'; 1001]?;
-    let (_, output) = with_setup(&rt, long)?;
-    assert_eq!(rt;
-        output.as_slice(),
-        b"bad setup KERNEL_TEXT 1 LINE_TOO_LONG\n".as_slice()
-    );
+    for outside in SAFE_AND_SHORT {
+        let (_, output) = with_setup(&rt, &[b'x'; 1001], outside)?;
+        assert_eq!(rt;
+            output.as_slice(),
+            b"bad setup KERNEL_TEXT 1 LINE_TOO_LONG\n".as_slice()
+        );
+    }
     Ok(())
 }
 
@@ -142,10 +145,11 @@ const TABLES: [&str; 4] = [
 #[test]
 fn setups_with_a_table(rt: HostRuntime) -> Result<(), Fail> {
     for setup in TABLES {
-        let bytes = Vec::from_slice(rt.alloc(), setup.as_bytes())?;
-        let (status, output) = with_setup(&rt, bytes)?;
-        assert_eq!(rt; status, Status::Done, "{setup}");
-        assert_eq!(rt; output.as_slice(), b"10.000000\n".as_slice(), "{setup}");
+        for outside in SAFE_AND_SHORT {
+            let (status, output) = with_setup(&rt, setup.as_bytes(), outside)?;
+            assert_eq!(rt; status, Status::Done, "{setup}");
+            assert_eq!(rt; output.as_slice(), b"10.000000\n".as_slice(), "{setup}");
+        }
     }
     Ok(())
 }
@@ -199,18 +203,20 @@ fn faults_outside(rt: HostRuntime) -> Result<(), Fail> {
     let alloc = rt.alloc();
     let words = to_tai(alloc, "2000-01-01T12:00:00")?;
     for (of_files, of_output, wanted, written) in FAULTS {
-        let failing = Failing {
-            files: of_files,
-            input: 0,
-            output: of_output,
-        };
-        let (status, output) = run_row(alloc, words.as_slice(), files(alloc)?, b"", failing)?;
-        assert_eq!(rt; status, wanted, "{of_files} {of_output}");
-        assert_eq!(rt;
-            output.as_slice(),
-            written.as_bytes(),
-            "{of_files} {of_output}"
-        );
+        for outside in SAFE_AND_SHORT {
+            let failing = Outside {
+                files: of_files,
+                output: of_output,
+                ..outside
+            };
+            let (status, output) = run_row(alloc, words.as_slice(), files(alloc)?, b"", failing)?;
+            assert_eq!(rt; status, wanted, "{of_files} {of_output}");
+            assert_eq!(rt;
+                output.as_slice(),
+                written.as_bytes(),
+                "{of_files} {of_output}"
+            );
+        }
     }
     Ok(())
 }
@@ -223,8 +229,11 @@ fn setups_that_are_absent_or_too_long(rt: HostRuntime) -> Result<(), Fail> {
     assert_eq!(rt; status, Status::BadSetup(LineFault::NoFile));
     assert_eq!(rt; output.as_slice(), b"bad setup NO_FILE\n".as_slice());
 
-    let (status, output) = with_setup(&rt, vec![in alloc; b' '; 16_777_217]?)?;
-    assert_eq!(rt; status, Status::BadSetup(LineFault::FileTooLong));
-    assert_eq!(rt; output.as_slice(), b"bad setup FILE_TOO_LONG\n".as_slice());
+    let long = vec![in alloc; b' '; 16_777_217]?;
+    for outside in SAFE_AND_SHORT {
+        let (status, output) = with_setup(&rt, long.as_slice(), outside)?;
+        assert_eq!(rt; status, Status::BadSetup(LineFault::FileTooLong));
+        assert_eq!(rt; output.as_slice(), b"bad setup FILE_TOO_LONG\n".as_slice());
+    }
     Ok(())
 }

@@ -6,20 +6,34 @@ use st_outside::{FileMap, MemFiles, MemSink, MemSource};
 use std::alloc::Global;
 use std::test::Fail;
 
-/// The calls of the files, of the input and of the output that fail, counted from 1; 0 where none does.
+/// How the outside behaves: the calls of the files, of the input and of the output that fail, counted from 1, where 0
+/// says that none does, and how many bytes a read of a file gives at most.
 #[derive(Clone, Copy)]
-pub struct Failing {
+pub struct Outside {
     pub files: u32,
     pub input: u32,
     pub output: u32,
+    pub most: usize,
 }
 
 /// Nothing fails.
-pub const SAFE: Failing = Failing {
+pub const SAFE: Outside = Outside {
     files: 0,
     input: 0,
     output: 0,
+    most: usize::MAX,
 };
+
+/// Nothing fails, and the files give one byte at a time.
+pub const SHORT: Outside = Outside {
+    files: 0,
+    input: 0,
+    output: 0,
+    most: 1,
+};
+
+/// What a row gives that meets no fault, it gives with each of these.
+pub const SAFE_AND_SHORT: [Outside; 2] = [SAFE, SHORT];
 
 /// How a run of these words ends over these files and this input, and what it writes.
 pub fn run_row(
@@ -27,20 +41,21 @@ pub fn run_row(
     words: &[String],
     files: FileMap,
     input: &[u8],
-    failing: Failing,
+    outside: Outside,
 ) -> Result<(Status, Vec<u8>), Fail> {
-    let mut files = MemFiles::new(files, Vec::from_slice(alloc, &[failing.files])?);
-    let failing_reads = Vec::from_slice(alloc, &[failing.input])?;
+    let failing_files = Vec::from_slice(alloc, &[outside.files])?;
+    let mut files = MemFiles::short(files, failing_files, outside.most.max(1));
+    let failing_reads = Vec::from_slice(alloc, &[outside.input])?;
     let mut input = MemSource::new(Vec::from_slice(alloc, input)?, failing_reads);
-    let mut out = MemSink::new(alloc, Vec::from_slice(alloc, &[failing.output])?);
+    let mut out = MemSink::new(alloc, Vec::from_slice(alloc, &[outside.output])?);
     let status = run(alloc, words, &mut files, &mut input, &mut out);
     Ok((status, Vec::from_slice(alloc, out.bytes())?))
 }
 
 /// How a batch of these lines ends over the folder of the worked rows, and what it writes.
-pub fn run_batch(alloc: Global, lines: &[u8]) -> Result<(Status, Vec<u8>), Fail> {
+pub fn run_batch(alloc: Global, lines: &[u8], outside: Outside) -> Result<(Status, Vec<u8>), Fail> {
     let words = batch(alloc)?;
-    run_row(alloc, words.as_slice(), folder(alloc)?, lines, SAFE)
+    run_row(alloc, words.as_slice(), folder(alloc)?, lines, outside)
 }
 
 /// Words as the program takes them.
