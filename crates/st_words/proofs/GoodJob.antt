@@ -1,20 +1,19 @@
 -- A job of the words is one that a session can be opened for.
-use Rattle.std.proofs.Common.{◌≡◌, ◌≢◌, ◌⊎◌, ℕ, ◌≤◌, Bool, true, false, Option, Some, None, Ok, Err, List, [], ◌∷◌, inl, inr, refl, sym, ap, ◌∙◌, subst}
-use Rattle.std.specs.Prelude.{is_some, ⊤}
+use Rattle.std.proofs.Common.{◌≡◌, ◌≢◌, ℕ, true, Option, Some, None, Ok, List, [], ◌∷◌, inl, inr, refl, sym, ap, ◌∙◌, subst}
+use Rattle.std.specs.Prelude.{⊤}
 use Rattle.std.proofs.lemmas.Bool.{cases_Bool}
 use Rattle.std.proofs.lemmas.Option.{same_Some}
 use Rattle.st_dates.specs.declared.system.System.{System}
 use Rattle.st_dates.specs.declared.system.System.TheVariants.{Utc, Tai, Tt, Tdb, Sclk}
-use Rattle.st_picture.specs.Picture.{Picture}
-use Rattle.st_picture.specs.Reading.{ReadsPicture, IsSecondsAlone}
+use Rattle.st_picture.specs.Reading.{IsSecondsAlone}
 use Rattle.st_picture.specs.ReadingMachine.{are_seconds_alone}
 use Rattle.st_picture.proofs.AloneLaws.{tells_alone}
 use Rattle.st_picture.proofs.RuleLaws.{told_not}
-use Rattle.st_words.specs.Cut.{nothing, has, with_choice, Standing, start_of, Takes, Reads}
-use Rattle.st_words.specs.Job.{IsShape, IsAskedFor, IsTypeGiven, IsSource, IsTarget, IsWayBack, IsClock, IsGoodJob}
+use Rattle.st_words.specs.Cut.{has, with_choice, Standing, start_of, Reads}
+use Rattle.st_words.specs.Job.{IsShape, IsAskedFor, IsTypeGiven, IsTarget, IsWayBack, IsClock, IsGoodJob}
 use Rattle.st_words.specs.Kinds.{is_type_of, to_type, default_picture}
-use Rattle.st_words.specs.Reading.{AskFor, OptionsGive, WordsGive}
-use Rattle.st_words.specs.Rules.{IsMisfit, IsPictured, Breaks, rules, AreKept}
+use Rattle.st_words.specs.Reading.{AskFor, WordsGive}
+use Rattle.st_words.specs.Rules.{IsMisfit, Breaks}
 use Rattle.st_words.specs.Values.{IsName, Spells}
 use Rattle.st_words.specs.declared.choice.Choice.{Choice}
 use Rattle.st_words.specs.declared.choice.Choice.TheVariants as choices

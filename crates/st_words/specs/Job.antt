@@ -1,7 +1,7 @@
 -- The job that options ask for, and what every job of the words is.
-use Rattle.std.specs.Prelude.{◌≡◌, ℕ, ◌≤◌, true, false, List, length, Option, Some, None, Ok, ⊤}
+use Rattle.std.specs.Prelude.{◌≡◌, ℕ, ◌≤◌, true, List, Option, Some, None, Ok, ⊤}
 use Rattle.st_dates.specs.declared.system.System.{System}
-use Rattle.st_dates.specs.declared.system.System.TheVariants.{Utc, Tai, Tt, Tdb, Sclk}
+use Rattle.st_dates.specs.declared.system.System.TheVariants.{Tdb, Sclk}
 use Rattle.st_picture.specs.Picture.{Picture}
 use Rattle.st_picture.specs.Reading.{ReadsPicture, IsSecondsAlone}
 use Rattle.st_words.specs.Kinds.{is_type_of, from_kind, to_type}
