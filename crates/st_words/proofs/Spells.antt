@@ -1,11 +1,11 @@
 -- A job has words that ask for it.
-use Rattle.std.proofs.Common.{◌≡◌, ◌≢◌, ◌⊎◌, ℕ, ◌+◌, ◌-◌, ◌^◌, ◌<◌, ◌≤◌, lit≤, Bool, true, false, Option, Some, None, Result, Ok, Err, List, [], ◌∷◌, ◌++◌, length, codes, inl, inr, refl, sym, ap, ◌∙◌, subst, arith, append_assoc}
-use Rattle.std.specs.Prelude.{is_some, unwrap_or, ⊤}
+use Rattle.std.proofs.Common.{◌≡◌, ℕ, ◌+◌, ◌≤◌, lit≤, Bool, true, false, Option, Some, None, Ok, List, [], ◌∷◌, ◌++◌, length, codes, inl, refl, sym, ap, ◌∙◌, subst, arith, append_assoc}
+use Rattle.std.specs.Prelude.{is_some, unwrap_or}
 use Rattle.std.proofs.lemmas.List.{append-nil}
 use Rattle.std.specs.Char.{is_ascii_digit, to_ascii_lowercase}
 use Rattle.std.proofs.lemmas.Bool.Decides.{nat_tests}
 use Rattle.std.proofs.lemmas.Option.{same_Some}
-use Rattle.st_text.specs.Bytes.{are_digits, number_of, decimal_digits}
+use Rattle.st_text.specs.Bytes.{are_digits, decimal_digits}
 use Rattle.st_text.proofs.Logic.{and-left}
 use Rattle.st_text.proofs.Spelled.{number_of-padded, are_digits-padded}
 use Rattle.st_ticks.proofs.SpellingLaws.{digits_begun}
@@ -14,18 +14,17 @@ use Rattle.st_dates.specs.declared.system.System.{System}
 use Rattle.st_dates.specs.declared.system.System.TheVariants.{Utc, Tai, Tt, Tdb, Sclk}
 use Rattle.st_picture.specs.Mark.{spelled}
 use Rattle.st_picture.specs.Picture.{Picture}
-use Rattle.st_picture.specs.Reading.{ReadsPicture, IsSecondsAlone}
-use Rattle.st_words.specs.Cut.{nothing, has, with_choice, Standing, start_of, Takes, Reads}
-use Rattle.st_words.specs.Job.{IsShape, IsTypeGiven, IsTarget, IsClock, IsWayBack, IsWorkInRange, IsGoodJob}
-use Rattle.st_words.specs.JobSteps.{Keeps}
-use Rattle.st_words.specs.Kinds.{is_type_of, from_kind, to_type, default_picture}
-use Rattle.st_words.specs.OptionWords.{word_of, IsWordOf, IsPlain}
+use Rattle.st_picture.specs.Reading.{ReadsPicture}
+use Rattle.st_words.specs.Cut.{nothing, has, with_choice, Standing, Takes, Reads}
+use Rattle.st_words.specs.Job.{IsShape, IsTypeGiven, IsTarget, IsClock, IsWorkInRange, IsGoodJob}
+use Rattle.st_words.specs.Kinds.{is_type_of, from_kind, default_picture}
+use Rattle.st_words.specs.OptionWords.{word_of, IsPlain}
 use Rattle.st_words.specs.Reading.{AskFor, OptionsGive, WordsGive}
 use Rattle.st_words.specs.Rules.{IsMisfit, AreKept}
 use Rattle.st_words.specs.RulesMachine.{work_of}
 use Rattle.st_words.specs.Spelling.{IsPlainShape, IsPlainWork, CanBeSpelled}
-use Rattle.st_words.specs.Values.{NamesSystem, NamesType, opt_of, Spells, HasCount, AtOption, Ends, ArePlain, IsValue}
-use Rattle.st_words.specs.WordsMachine.{option_of, is_plain}
+use Rattle.st_words.specs.Values.{NamesSystem, NamesType, opt_of, Spells, HasCount, AtOption, Ends, ArePlain}
+use Rattle.st_words.specs.WordsMachine.{option_of}
 use Rattle.st_words.specs.declared.choice.Choice.{Choice}
 use Rattle.st_words.specs.declared.choice.Choice.TheVariants as choices
 use Rattle.st_words.specs.declared.job.Job.{Job}
