@@ -1,11 +1,9 @@
 -- The words are cut from the left exactly as the code reads them.
-use Rattle.std.proofs.Common.{one-add, zero, suc, ◌≡◌, ◌≢◌, ◌⊎◌, ℕ, ◌+◌, ◌-◌, ◌<◌, ◌≤◌, Bool, true, false, cond, Option, Some, None, Result, Ok, Err, List, [], ◌∷◌, ◌++◌, length, take, drop, map, get_or, inl, inr, refl, sym, ap, ◌∙◌, subst, arith, length-append}
+use Rattle.std.proofs.Common.{zero, suc, ◌≡◌, ◌⊎◌, ℕ, ◌+◌, ◌-◌, ◌≤◌, Bool, true, false, cond, Option, Some, None, Result, Ok, Err, List, [], ◌∷◌, ◌++◌, length, take, drop, map, get_or, inl, inr, refl, sym, ap, ◌∙◌, subst, arith, length-append}
 use Rattle.std.proofs.Math.Seq.{take-append_seam, drop-append_seam}
-use Rattle.std.proofs.lemmas.Bool.{cases_Bool}
 use Rattle.std.proofs.lemmas.List.{take-append-drop, length-map, length-drop, drop-map}
-use Rattle.std.proofs.lemmas.Option.{same_Some}
-use Rattle.st_words.specs.Cut.{nothing, has, with_choice, Standing, start_of, Takes, Reads, Begins, HasValue, HasBadValue, is_numeric, Stops}
-use Rattle.st_words.specs.OptionWords.{IsWordOf, IsPlain}
+use Rattle.st_words.specs.Cut.{has, with_choice, Standing, Takes, Reads, Begins, HasValue, HasBadValue, is_numeric, Stops}
+use Rattle.st_words.specs.OptionWords.{IsWordOf}
 use Rattle.st_words.specs.Values.{opt_of, Spells, IsValue, IsBadAt}
 use Rattle.st_words.specs.WordsMachine.{◌>>=◌, ok_or, option_of, value_count, value_of, bad_of, choice_of, choice_by, option_at, read}
 use Rattle.st_words.specs.declared.choice.Choice.{Choice}
@@ -16,7 +14,7 @@ use Rattle.st_words.specs.declared.opt.Opt.TheVariants.{Setup, From, FromType, T
 use Rattle.st_words.specs.declared.options.Options.{Options}
 use Rattle.st_words.proofs.Lists.{tail_of, tail_is}
 use Rattle.st_words.proofs.NameLaws.{option_found, option_is, none_is, plain_none}
-use Rattle.st_words.proofs.ValueLaws.{same_Ok, same_Err, value_found, value_is, bad_is, bad_found, count_found, count_is, count_none}
+use Rattle.st_words.proofs.ValueLaws.{value_found, value_is, bad_is, bad_found, count_found, count_is, count_none}
 
 -- where the reading stands
 abbrev pub at : Options → ℕ → List (List ℕ) → Standing

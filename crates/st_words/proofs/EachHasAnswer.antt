@@ -1,5 +1,5 @@
 -- All words have an answer.
-use Rattle.std.proofs.Common.{◌≡◌, ◌≢◌, ◌⊎◌, ℕ, ◌<◌, ◌≤◌, Bool, true, false, Option, Some, None, Result, Ok, Err, List, [], ◌∷◌, ◌++◌, length, inl, inr, refl, sym, ap, ◌∙◌, subst, arith}
+use Rattle.std.proofs.Common.{◌≡◌, ◌≢◌, ◌⊎◌, ℕ, ◌≤◌, Bool, true, false, Option, Some, None, Result, Ok, Err, List, length, inl, inr, refl, sym, ap, ◌∙◌, subst, arith}
 use Rattle.std.specs.Prelude.{is_some, position, unwrap_or}
 use Rattle.std.proofs.lemmas.Bool.{cases_Bool, cases_lt}
 use Rattle.st_dates.specs.declared.system.System.{System}
@@ -20,7 +20,7 @@ use Rattle.st_words.specs.Job.{IsShape}
 use Rattle.st_words.specs.JobSteps.{Keeps}
 use Rattle.st_words.specs.Kinds.{from_kind, to_type, default_picture}
 use Rattle.st_words.specs.Reading.{OptionsGive, WordsGive}
-use Rattle.st_words.specs.Rules.{IsPictured, RefusesPicture, AreKept}
+use Rattle.st_words.specs.Rules.{IsPictured, AreKept}
 use Rattle.st_words.specs.RulesMachine.{first_fault, work_of}
 use Rattle.st_words.specs.WordsMachine.{read}
 use Rattle.st_words.specs.declared.fault.WordFault.{WordFault}

@@ -1,26 +1,27 @@
 -- A job of the words is one that a session can be opened for.
-use Rattle.std.proofs.Common.{◌≡◌, ◌≢◌, ◌⊎◌, ℕ, ◌≤◌, Bool, true, false, Option, Some, None, Ok, Err, List, [], ◌∷◌, inl, inr, refl, sym, ap, ◌∙◌, subst}
-use Rattle.std.specs.Prelude.{is_some, ⊤}
+use Rattle.std.proofs.Common.{◌≡◌, ◌≢◌, ℕ, true, Option, Some, None, Ok, List, [], ◌∷◌, inl, inr, refl, sym, ap, ◌∙◌, subst}
+use Rattle.std.specs.Prelude.{⊤}
 use Rattle.std.proofs.lemmas.Bool.{cases_Bool}
 use Rattle.std.proofs.lemmas.Option.{same_Some}
 use Rattle.st_dates.specs.declared.system.System.{System}
 use Rattle.st_dates.specs.declared.system.System.TheVariants.{Utc, Tai, Tt, Tdb, Sclk}
-use Rattle.st_picture.specs.Picture.{Picture}
-use Rattle.st_picture.specs.Reading.{ReadsPicture, IsSecondsAlone}
+use Rattle.st_picture.specs.Reading.{IsSecondsAlone}
 use Rattle.st_picture.specs.ReadingMachine.{are_seconds_alone}
 use Rattle.st_picture.proofs.AloneLaws.{tells_alone}
 use Rattle.st_picture.proofs.RuleLaws.{told_not}
-use Rattle.st_words.specs.Cut.{nothing, has, with_choice, Standing, start_of, Takes, Reads}
-use Rattle.st_words.specs.Job.{IsShape, IsAskedFor, IsTypeGiven, IsSource, IsTarget, IsWayBack, IsClock, IsGoodJob}
+use Rattle.st_words.specs.Cut.{has, with_choice, Standing, start_of, Reads}
+use Rattle.st_words.specs.Job.{IsShape, IsWork, IsWorkInRange, IsAskedFor, IsTypeGiven, IsTarget, IsWayBack, IsClock, IsGoodJob}
 use Rattle.st_words.specs.Kinds.{is_type_of, to_type, default_picture}
-use Rattle.st_words.specs.Reading.{AskFor, OptionsGive, WordsGive}
-use Rattle.st_words.specs.Rules.{IsMisfit, IsPictured, Breaks, rules, AreKept}
+use Rattle.st_words.specs.Reading.{AskFor, WordsGive}
+use Rattle.st_words.specs.Rules.{IsMisfit, Breaks}
 use Rattle.st_words.specs.Values.{IsName, Spells}
 use Rattle.st_words.specs.declared.choice.Choice.{Choice}
 use Rattle.st_words.specs.declared.choice.Choice.TheVariants as choices
 use Rattle.st_words.specs.declared.job.Job.{Job}
 use Rattle.st_words.specs.declared.job.ToKind.{ToKind}
 use Rattle.st_words.specs.declared.job.ToKind.TheVariants.{Pictured, Clock, Ticks}
+use Rattle.st_words.specs.declared.job.Work.{Work}
+use Rattle.st_words.specs.declared.job.Work.TheVariants as works
 use Rattle.st_words.specs.declared.opt.Opt.TheVariants as opts
 use Rattle.st_words.specs.declared.options.Options.{Options}
 use Rattle.st_words.specs.declared.rule.Rule.TheVariants.{BackToClock, BackFromEt, BackFromSeconds}
@@ -33,22 +34,27 @@ abbrev IsNameIn : Option (List ℕ) → Type 0
 IsNameIn None = ⊤
 IsNameIn (Some name) = IsName name
 
+abbrev IsSampleIn : Option (ℕ × ℕ) → Type 0
+IsSampleIn None = ⊤
+IsSampleIn (Some sample) = IsWorkInRange (works.Sample sample.0 sample.1)
+
 record AreInRange (o : Options) : Type 0 where
   setup : IsNameIn o.setup
   clock : IsClock o.clock
+  sample : IsSampleIn o.sample
 
 range_more : (o : Options) (choice : Choice) (words : List (List ℕ)) → Spells choice words → AreInRange o → AreInRange (with_choice o choice)
-range_more o (choices.Setup name) words s r = record { setup = s.1; clock = r.clock }
-range_more o (choices.From system) words s r = record { setup = r.setup; clock = r.clock }
-range_more o (choices.FromType kind) words s r = record { setup = r.setup; clock = r.clock }
-range_more o (choices.To system) words s r = record { setup = r.setup; clock = r.clock }
-range_more o (choices.ToType kind) words s r = record { setup = r.setup; clock = r.clock }
-range_more o (choices.Format text) words s r = record { setup = r.setup; clock = r.clock }
-range_more o (choices.Time text) words s r = record { setup = r.setup; clock = r.clock }
-range_more o choices.Batch words s r = record { setup = r.setup; clock = r.clock }
-range_more o (choices.Sample lines seed) words s r = record { setup = r.setup; clock = r.clock }
-range_more o (choices.Sc clock) words s r = record { setup = r.setup; clock = (s.2.number.at_least, s.2.number.at_most) }
-range_more o choices.Back words s r = record { setup = r.setup; clock = r.clock }
+range_more o (choices.Setup name) words s r = record { setup = s.1; clock = r.clock; sample = r.sample }
+range_more o (choices.From system) words s r = record { setup = r.setup; clock = r.clock; sample = r.sample }
+range_more o (choices.FromType kind) words s r = record { setup = r.setup; clock = r.clock; sample = r.sample }
+range_more o (choices.To system) words s r = record { setup = r.setup; clock = r.clock; sample = r.sample }
+range_more o (choices.ToType kind) words s r = record { setup = r.setup; clock = r.clock; sample = r.sample }
+range_more o (choices.Format text) words s r = record { setup = r.setup; clock = r.clock; sample = r.sample }
+range_more o (choices.Time text) words s r = record { setup = r.setup; clock = r.clock; sample = r.sample }
+range_more o choices.Batch words s r = record { setup = r.setup; clock = r.clock; sample = r.sample }
+range_more o (choices.Sample lines seed) words s r = record { setup = r.setup; clock = r.clock; sample = (s.3.at_least, s.3.at_most, s.4.at_most) }
+range_more o (choices.Sc clock) words s r = record { setup = r.setup; clock = (s.2.number.at_least, s.2.number.at_most); sample = r.sample }
+range_more o choices.Back words s r = record { setup = r.setup; clock = r.clock; sample = r.sample }
 
 range_kept : (from end : Standing) (all : List Choice) → Reads from all end → AreInRange from.asked → AreInRange end.asked
 range_kept from end [] r h = let P : Standing → Type 0 = λ s. AreInRange s.asked in subst P r h
@@ -57,7 +63,7 @@ range_kept from end (choice ∷ more) r h =
     range_kept r.0 end more r.2 (subst AreInRange (sym t.asked) (range_more from.asked choice t.values t.spelled h))
 
 asked_in_range : (words : List (List ℕ)) (o : Options) → AskFor words o → AreInRange o
-asked_in_range words o a = subst AreInRange a.asked (range_kept (start_of words) a.end a.choices a.reads (record { setup = tt; clock = tt }))
+asked_in_range words o a = subst AreInRange a.asked (range_kept (start_of words) a.end a.choices a.reads (record { setup = tt; clock = tt; sample = tt }))
 
 fits_given : (system : System) (given : Option TimeType) → (IsMisfit (Some system) given → ⊥) → IsTypeGiven system given
 fits_given system None h = tt
@@ -169,6 +175,11 @@ good_back o job k fits a e =
           ))
     ]
 
+work_in_range : (o : Options) (work : Work) → AreInRange o → IsWork o work → IsWorkInRange work
+work_in_range o (works.Time text) r w = tt
+work_in_range o works.Batch r w = tt
+work_in_range o (works.Sample lines seed) r w = subst IsSampleIn w r.sample
+
 pub good_job : (words : List (List ℕ)) (job : Job) → WordsGive words (Ok job) → IsGoodJob job
 good_job words job h =
     let o = h.0 in
@@ -185,5 +196,6 @@ good_job words job h =
       source = (o.from_type, fits_given job.from o.from_type (subst Q a.from from_fits), a.form);
       target = good_target o job.to job.shape (target_type job.to o.to_type (fits_given job.to o.to_type (subst R a.to to_fits))) a.shape;
       clock = subst IsClock (sym a.clock) r.clock;
+      work = work_in_range o job.work r a.work;
       back = good_back o job (record { to_clock = behind.0; from_et = (behind.1).0; seconds = ((behind.1).1).0 }) to_fits a;
     }

@@ -1,7 +1,6 @@
 -- What the tests of the rules leave is the job that the options ask for.
-use Rattle.std.proofs.Common.{◌≡◌, ◌≢◌, ◌⊎◌, ℕ, ◌≤◌, Bool, true, false, not, Option, Some, None, Result, Ok, Err, List, [], ◌∷◌, ◌++◌, inl, inr, refl, sym, ap, ◌∙◌, subst}
-use Rattle.std.specs.Prelude.{is_some, unwrap_or, ⊤}
-use Rattle.std.proofs.lemmas.Bool.{cases_Bool}
+use Rattle.std.proofs.Common.{◌≡◌, ◌≢◌, ℕ, Bool, true, false, not, Option, Some, None, Result, Ok, Err, List, [], ◌∷◌, ◌++◌, inl, inr, refl, sym, ap, ◌∙◌, subst}
+use Rattle.std.specs.Prelude.{is_some, unwrap_or}
 use Rattle.std.proofs.lemmas.Option.{same_Some}
 use Rattle.st_dates.specs.declared.system.System.{System}
 use Rattle.st_dates.specs.declared.system.System.TheVariants.{Utc, Tai, Tt, Tdb, Sclk}
@@ -11,11 +10,11 @@ use Rattle.st_picture.specs.declared.fault.PictureFault.{PictureFault}
 use Rattle.st_picture.specs.declared.fault.PictureFault.TheVariants.{TooLong, BadByte, LeftOutMark, StrayHash, TooManyPlaces, Empty, MixedForms, CountInUtc, WrongSystem, NoUnit, OutOfMemory}
 use Rattle.st_picture.proofs.OneAnswer.{one_reading}
 use Rattle.st_words.specs.Cut.{has}
-use Rattle.st_words.specs.Job.{IsWork, IsShape, IsAskedFor}
+use Rattle.st_words.specs.Job.{IsWork, IsShape}
 use Rattle.st_words.specs.JobSteps.{Keeps}
-use Rattle.st_words.specs.Kinds.{is_type_of, from_kind, to_type, default_type, default_picture}
+use Rattle.st_words.specs.Kinds.{from_kind, to_type, default_picture}
 use Rattle.st_words.specs.Reading.{OptionsGive}
-use Rattle.st_words.specs.Rules.{IsMisfit, IsPictured, RefusesPicture, PrintsMore, Breaks, rules, AreKept, FirstBroken, fault_of, Names}
+use Rattle.st_words.specs.Rules.{IsMisfit, IsPictured, RefusesPicture, PrintsMore, Breaks, AreKept}
 use Rattle.st_words.specs.RulesMachine.{work_of, word_fault}
 use Rattle.st_words.specs.declared.fault.WordFault.{WordFault}
 use Rattle.st_words.specs.declared.fault.WordFault.TheVariants as faults
@@ -23,11 +22,9 @@ use Rattle.st_words.specs.declared.job.Job.{Job}
 use Rattle.st_words.specs.declared.job.ToKind.{ToKind}
 use Rattle.st_words.specs.declared.job.ToKind.TheVariants.{Pictured, Clock, Ticks}
 use Rattle.st_words.specs.declared.job.Work.{Work}
-use Rattle.st_words.specs.declared.job.Work.TheVariants as works
 use Rattle.st_words.specs.declared.opt.Opt.TheVariants as opts
 use Rattle.st_words.specs.declared.options.Options.{Options}
-use Rattle.st_words.specs.declared.rule.Rule.{Rule}
-use Rattle.st_words.specs.declared.rule.Rule.TheVariants.{SetupIsThere, FromIsThere, ToIsThere, WorkIsThere, FromTypeFits, ToTypeFits, TimeOrBatch, TimeOrSample, BatchOrSample, FormatOfNoClock, FormatOrSeconds, PictureReads, BackToClock, BackFromEt, BackFromSeconds}
+use Rattle.st_words.specs.declared.rule.Rule.TheVariants.{ToTypeFits, PictureReads, BackToClock, BackFromEt, BackFromSeconds}
 use Rattle.st_words.specs.declared.time_type.TimeType.{TimeType}
 use Rattle.st_words.specs.declared.time_type.TimeType.TheVariants as types
 use Rattle.st_words.proofs.RuleLaws.{before_picture, of_way_back, first_behind, both_kept}

@@ -8,3 +8,4 @@ pub mod OneAnswer
 pub mod GoodJob
 pub mod EachHasAnswer
 pub mod SetupLaws
+pub mod Spells

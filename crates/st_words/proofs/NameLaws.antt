@@ -10,7 +10,7 @@ use Rattle.st_dates.specs.declared.system.System.{System}
 use Rattle.st_dates.specs.declared.system.System.TheVariants.{Utc, Tai, Tt, Tdb, Sclk}
 use Rattle.st_words.specs.OptionWords.{word_of, IsWordOf, IsPlain}
 use Rattle.st_words.specs.Values.{NamesSystem, NamesType}
-use Rattle.st_words.specs.WordsMachine.{all_options, option_of, is_option, is_plain, system_of, type_of}
+use Rattle.st_words.specs.WordsMachine.{all_options, option_of, is_plain, system_of, type_of}
 use Rattle.st_words.specs.declared.opt.Opt.{Opt}
 use Rattle.st_words.specs.declared.opt.Opt.TheVariants.{Setup, From, FromType, To, ToType, Format, Time, Batch, Sample, Sc, Back}
 use Rattle.st_words.specs.declared.time_type.TimeType.{TimeType}

@@ -1,22 +1,20 @@
 -- Words give one answer.
-use Rattle.std.proofs.Common.{◌≡◌, ◌≢◌, ◌⊎◌, ◌≤◌, arith, length, ℕ, Bool, true, false, Option, Some, None, Result, Ok, Err, List, [], ◌∷◌, ◌++◌, inl, inr, refl, sym, ap, ◌∙◌, subst}
+use Rattle.std.proofs.Common.{◌≡◌, ◌≢◌, ◌≤◌, arith, length, ℕ, true, Option, Some, None, Result, Ok, Err, List, inl, inr, refl, sym, ap, ◌∙◌, subst}
 use Rattle.std.specs.Prelude.{is_some, IfOk, IfErr}
 use Rattle.std.proofs.lemmas.Option.{same_Some}
 use Rattle.st_dates.specs.declared.system.System.{System}
 use Rattle.st_picture.specs.Picture.{Picture}
 use Rattle.st_picture.specs.Reading.{ReadsPicture, Agree}
 use Rattle.st_picture.specs.declared.fault.PictureFault.{PictureFault}
-use Rattle.st_picture.specs.declared.fault.PictureFault.TheVariants.{OutOfMemory as NoMemory}
 use Rattle.st_picture.proofs.OneAnswer.{one_reading}
-use Rattle.st_words.specs.Cut.{nothing, has, start_of, Reads, Stops}
+use Rattle.st_words.specs.Cut.{nothing, start_of}
 use Rattle.st_words.specs.Job.{IsWork, IsShape, IsAskedFor}
-use Rattle.st_words.specs.Kinds.{from_kind, to_type}
+use Rattle.st_words.specs.Kinds.{from_kind}
 use Rattle.st_words.specs.Reading.{AskFor, HasFault, OptionsGive, WordsGive}
-use Rattle.st_words.specs.Rules.{IsPictured, RefusesPicture, Breaks, rules, AreKept, FirstBroken, fault_of, Names}
+use Rattle.st_words.specs.Rules.{RefusesPicture, rules, AreKept, fault_of, Names}
 use Rattle.st_words.specs.WordsMachine.{read}
 use Rattle.st_words.specs.declared.fault.WordFault.{WordFault}
 use Rattle.st_words.specs.declared.fault.WordFault.TheVariants as faults
-use Rattle.st_words.specs.declared.job.FromKind.{FromKind}
 use Rattle.st_words.specs.declared.job.Job.{Job}
 use Rattle.st_words.specs.declared.job.ToKind.{ToKind}
 use Rattle.st_words.specs.declared.job.ToKind.TheVariants.{Pictured, Clock, Ticks}
@@ -24,10 +22,8 @@ use Rattle.st_words.specs.declared.job.Work.{Work}
 use Rattle.st_words.specs.declared.job.Work.TheVariants as works
 use Rattle.st_words.specs.declared.options.Options.{Options}
 use Rattle.st_words.specs.declared.rule.Rule.{Rule}
-use Rattle.st_words.specs.declared.rule.Rule.TheVariants.{PictureReads}
-use Rattle.st_words.specs.declared.time_type.TimeType.{TimeType}
 use Rattle.st_words.specs.declared.time_type.TimeType.TheVariants as types
-use Rattle.st_words.proofs.CutLaws.{Answered, at, read_tells, reads_read, stops_read}
+use Rattle.st_words.proofs.CutLaws.{Answered, read_tells, reads_read, stops_read}
 use Rattle.st_words.proofs.JobLaws.{one_pictured, one_picture, no_picture}
 use Rattle.st_words.proofs.RuleLaws.{kept_first, one_first}
 use Rattle.st_words.proofs.ValueLaws.{same_Ok, same_Err}

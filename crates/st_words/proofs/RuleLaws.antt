@@ -1,13 +1,12 @@
 -- The tests of the code find the first rule that options break.
-use Rattle.std.proofs.Common.{◌≡◌, ◌≢◌, ◌⊎◌, ℕ, Bool, true, false, not, ◌||◌, ◌&&◌, cond, Option, Some, None, Result, Ok, Err, List, [], ◌∷◌, ◌++◌, inl, inr, refl, sym, ap, ◌∙◌, subst}
-use Rattle.std.specs.Prelude.{is_some, find, unwrap_or, ⊤}
+use Rattle.std.proofs.Common.{◌≡◌, ◌≢◌, Bool, true, false, not, ◌&&◌, Option, Some, None, Err, List, [], ◌∷◌, ◌++◌, inl, inr, refl, sym, ap, ◌∙◌}
+use Rattle.std.specs.Prelude.{is_some, find, ⊤}
 use Rattle.std.proofs.lemmas.Bool.{cases_Bool}
 use Rattle.std.proofs.lemmas.Option.{same_Some}
 use Rattle.st_dates.specs.declared.system.System.{System}
 use Rattle.st_dates.specs.declared.system.System.TheVariants.{Utc, Tai, Tt, Tdb, Sclk}
-use Rattle.st_words.specs.Cut.{has}
 use Rattle.st_words.specs.Kinds.{is_type_of}
-use Rattle.st_words.specs.Rules.{Both, IsMisfit, Breaks, rules, AreKept, FirstBroken, fault_of, Names}
+use Rattle.st_words.specs.Rules.{IsMisfit, Breaks, AreKept, FirstBroken, fault_of}
 use Rattle.st_words.specs.Reading.{OptionsGive}
 use Rattle.st_words.specs.RulesMachine.{is_misfit, is_clock, is_tdb, is_seconds, is_broken, fault_by, first_fault}
 use Rattle.st_words.specs.declared.fault.WordFault.{WordFault}

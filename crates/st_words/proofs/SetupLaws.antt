@@ -1,13 +1,13 @@
 -- A setup names its files and its clock in one way.
-use Rattle.std.proofs.Common.{◌≡◌, ℕ, Bool, true, false, Option, Some, None, Result, Ok, Err, List, [], ◌∷◌, ◌++◌, length, inl, inr, refl, sym, ap, ◌∙◌, subst}
+use Rattle.std.proofs.Common.{◌≡◌, ℕ, Option, Some, None, Result, Ok, Err, List, length, inl, inr, refl, sym, ◌∙◌}
 use Rattle.std.specs.Prelude.{IfSome}
 use Rattle.std.specs.List.{slice_get}
 use Rattle.st_decimal.specs.declared.number.Dec.{Dec}
 use Rattle.st_kernel_text.specs.declared.value.Value.{Value}
-use Rattle.st_kernel_text.specs.declared.value.Value.TheVariants.{Number, Text}
+use Rattle.st_kernel_text.specs.declared.value.Value.TheVariants.{Number}
 use Rattle.st_pool.specs.Variable.{loaded_values, loaded_kind}
 use Rattle.st_pool.specs.declared.kernel.Kernel.{Kernel}
-use Rattle.st_pool.specs.declared.kind.Kind.TheVariants.{Absent, Numbers, Texts, Mixed}
+use Rattle.st_pool.specs.declared.kind.Kind.TheVariants.{Numbers}
 use Rattle.st_words.specs.Setup.{id_name, IsId, IsClockOf, SetupClock}
 use Rattle.st_words.specs.declared.fault.IdFault.{IdFault}
 use Rattle.st_words.specs.declared.fault.IdFault.TheVariants.{Missing, WrongKind as NoNumber, BadId}

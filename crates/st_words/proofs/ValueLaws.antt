@@ -1,24 +1,21 @@
 -- A value is read exactly where its words spell what an option means.
-use Rattle.std.proofs.Common.{one-add, ◌≡◌, ◌≢◌, ◌⊎◌, ℕ, zero, suc, ◌+◌, ◌-◌, ◌^◌, ◌<◌, ◌≤◌, Bool, true, false, not, ◌||◌, ◌&&◌, eqb, nat_lt, cond, Option, Some, None, Result, Ok, Err, List, [], ◌∷◌, ◌++◌, length, take, drop, inl, inr, refl, sym, ap, ◌∙◌, subst, arith}
+use Rattle.std.proofs.Common.{one-add, ◌≡◌, ℕ, zero, suc, ◌+◌, ◌-◌, ◌^◌, ◌≤◌, Bool, true, false, not, ◌||◌, ◌&&◌, eqb, nat_lt, cond, Option, Some, None, Result, Ok, Err, List, [], ◌∷◌, ◌++◌, length, take, drop, inl, inr, refl, sym, ap, ◌∙◌, subst, arith}
 use Rattle.std.specs.Prelude.{nat_le, option_map}
 use Rattle.std.specs.List.{prefix_len}
 use Rattle.std.proofs.lemmas.Bool.{cases_Bool}
 use Rattle.std.proofs.lemmas.Bool.Decides.{nat_tests}
 use Rattle.std.proofs.lemmas.Option.{same_Some}
-use Rattle.st_dates.specs.declared.system.System.{System}
 use Rattle.st_text.specs.Bytes.{are_digits, number_of}
-use Rattle.st_words.specs.OptionWords.{IsWordOf, IsPlain}
-use Rattle.st_words.specs.Cut.{HasValue, is_numeric}
-use Rattle.st_words.specs.Values.{NamesSystem, NamesType, SpellsNumber, SpellsClock, SpellsLines, SpellsSeed, IsName, joined, opt_of, Spells, HasCount, AtOption, Ends, ArePlain, IsValue, IsBadAt}
-use Rattle.st_words.specs.WordsMachine.{◌>>=◌, is_plain, system_of, type_of, number_within, clock_of, is_name, meaning_of, bad_of, ok_or, single_of, sample_of, sample_in, single_in, value_of, at_least, counted, value_count}
+use Rattle.st_words.specs.Cut.{HasValue}
+use Rattle.st_words.specs.Values.{SpellsNumber, SpellsClock, IsName, joined, opt_of, Spells, HasCount, AtOption, Ends, ArePlain, IsValue, IsBadAt}
+use Rattle.st_words.specs.WordsMachine.{◌>>=◌, is_plain, system_of, type_of, number_within, clock_of, is_name, meaning_of, bad_of, ok_or, single_of, value_of, at_least, counted, value_count}
 use Rattle.st_words.specs.declared.choice.Choice.{Choice}
 use Rattle.st_words.specs.declared.choice.Choice.TheVariants as choices
 use Rattle.st_words.specs.declared.fault.WordFault.{WordFault}
-use Rattle.st_words.specs.declared.fault.WordFault.TheVariants.{BadValue, BadNumber, NoValue}
+use Rattle.st_words.specs.declared.fault.WordFault.TheVariants.{BadValue, BadNumber}
 use Rattle.st_words.specs.declared.opt.Opt.{Opt}
 use Rattle.st_words.specs.declared.opt.Opt.TheVariants.{Setup, From, FromType, To, ToType, Format, Time, Batch, Sample, Sc, Back}
-use Rattle.st_words.specs.declared.time_type.TimeType.{TimeType}
-use Rattle.st_words.proofs.NameLaws.{plain_test, plain_is, not_plain, option_found, system_found, system_is, type_found, type_is}
+use Rattle.st_words.proofs.NameLaws.{plain_test, plain_is, not_plain, system_found, system_is, type_found, type_is}
 
 abbrev ok_value : {A : Type 0} → A → Result A WordFault → A
 ok_value d (Ok x) = x

@@ -1,6 +1,6 @@
 -- The words read from the left: each option with its value, and what stands there where they go on no further. That the
 -- leftmost of these faults is answered, and that no option stands twice, is this project's own.
-use Rattle.std.specs.Prelude.{◌≡◌, ℕ, ◌+◌, Bool, true, false, is_some, List, [], ◌∷◌, ◌++◌, length, Option, Some, None}
+use Rattle.std.specs.Prelude.{◌≡◌, ℕ, ◌+◌, Bool, true, false, is_some, List, [], ◌∷◌, ◌++◌, length, Some, None}
 use Rattle.st_words.specs.OptionWords.{IsWordOf, IsPlain}
 use Rattle.st_words.specs.Values.{opt_of, Spells, IsValue, IsBadAt}
 use Rattle.st_words.specs.declared.choice.Choice.{Choice}

@@ -1,7 +1,7 @@
 -- The job that options ask for, and what every job of the words is.
-use Rattle.std.specs.Prelude.{◌≡◌, ℕ, ◌≤◌, true, false, List, length, Option, Some, None, Ok, ⊤}
+use Rattle.std.specs.Prelude.{◌≡◌, ℕ, ◌≤◌, ◌-◌, ◌^◌, true, List, Option, Some, None, Ok, ⊤}
 use Rattle.st_dates.specs.declared.system.System.{System}
-use Rattle.st_dates.specs.declared.system.System.TheVariants.{Utc, Tai, Tt, Tdb, Sclk}
+use Rattle.st_dates.specs.declared.system.System.TheVariants.{Tdb, Sclk}
 use Rattle.st_picture.specs.Picture.{Picture}
 use Rattle.st_picture.specs.Reading.{ReadsPicture, IsSecondsAlone}
 use Rattle.st_words.specs.Kinds.{is_type_of, from_kind, to_type}
@@ -68,11 +68,17 @@ abbrev pub IsClock : Option ℕ → Type 0
 IsClock None = ⊤
 IsClock (Some n) = (1 ≤ n) × (n ≤ 999_999_999)
 
+-- a sample has from 1 to 1,000,000 lines, and a seed of 64 bits
+abbrev pub IsWorkInRange : Work → Type 0
+IsWorkInRange (works.Sample lines seed) = (1 ≤ lines) × (lines ≤ 1_000_000) × (seed ≤ 2 ^ 64 - 1)
+IsWorkInRange work = ⊤
+
 -- A job that a session can be opened for: its kinds are kinds of its systems, its picture was read for its target, a way back is
--- one, its clock's id has its range, and its setup's name its length.
+-- one, its clock's id and its sample have their ranges, and its setup's name its length.
 pub record IsGoodJob (job : Job) : Type 0 where
   pub setup : IsName job.setup
   pub source : IsSource job.from job.form
   pub target : IsTarget job.to job.shape
   pub clock : IsClock job.clock
+  pub work : IsWorkInRange job.work
   pub back : job.back ≡ true → IsWayBack job

@@ -1,8 +1,8 @@
 -- The types of each system, and those that are taken where none is given. Source: the CHRONOS User's Guide, on time systems and
 -- types, of which these are a part; the defaults are this project's own.
-use Rattle.std.specs.Prelude.{◌≡◌, ℕ, Bool, true, false, List, codes, Option, Some, None, unwrap_or, ⊤}
+use Rattle.std.specs.Prelude.{ℕ, Bool, true, false, List, codes, Option, Some, None, unwrap_or}
 use Rattle.st_dates.specs.declared.system.System.{System}
-use Rattle.st_dates.specs.declared.system.System.TheVariants.{Utc, Tai, Tt, Tdb, Sclk}
+use Rattle.st_dates.specs.declared.system.System.TheVariants.{Utc, Sclk}
 use Rattle.st_forms.specs.declared.form.Form.TheVariants as forms
 use Rattle.st_words.specs.declared.job.FromKind.{FromKind}
 use Rattle.st_words.specs.declared.job.FromKind.TheVariants as sources

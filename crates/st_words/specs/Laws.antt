@@ -1,6 +1,8 @@
 -- What the definition of the words says by itself.
-use Rattle.std.specs.Prelude.{◌≡◌, ℕ, List, Result}
+use Rattle.std.specs.Prelude.{◌≡◌, ℕ, List, Result, Ok}
+use Rattle.st_words.specs.Job.{IsGoodJob}
 use Rattle.st_words.specs.Reading.{WordsGive}
+use Rattle.st_words.specs.Spelling.{CanBeSpelled}
 use Rattle.st_words.specs.declared.fault.WordFault.{WordFault}
 use Rattle.st_words.specs.declared.job.Job.{Job}
 
@@ -11,3 +13,7 @@ OneAnswer = (words : List (List ℕ)) (a b : Result Job WordFault) → WordsGive
 -- Each list of words gives an answer.
 abbrev pub EachHasAnswer : Type 0
 EachHasAnswer = (words : List (List ℕ)) → (answer : Result Job WordFault) × WordsGive words answer
+
+-- Each job that a session can be opened for has words that ask for it, where none of its texts names an option.
+abbrev pub EachJobIsSpelled : Type 0
+EachJobIsSpelled = (job : Job) → IsGoodJob job → CanBeSpelled job → (words : List (List ℕ)) × WordsGive words (Ok job)

@@ -5,6 +5,7 @@ pub mod Kinds
 pub mod Rules
 pub mod Job
 pub mod Reading
+pub mod Spelling
 pub mod Setup
 pub mod Text
 pub mod Laws

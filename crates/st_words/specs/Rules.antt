@@ -12,7 +12,7 @@ use Rattle.st_words.specs.Kinds.{is_type_of, to_type, default_picture}
 use Rattle.st_words.specs.declared.fault.WordFault.{WordFault}
 use Rattle.st_words.specs.declared.fault.WordFault.TheVariants.{Missing, BadPair, Conflict, BadPicture}
 use Rattle.st_words.specs.declared.opt.Opt.{Opt}
-use Rattle.st_words.specs.declared.opt.Opt.TheVariants.{Setup, From, FromType, To, ToType, Format, Time, Batch, Sample, Sc, Back}
+use Rattle.st_words.specs.declared.opt.Opt.TheVariants.{Setup, From, FromType, To, ToType, Format, Time, Batch, Sample, Back}
 use Rattle.st_words.specs.declared.options.Options.{Options}
 use Rattle.st_words.specs.declared.rule.Rule.{Rule}
 use Rattle.st_words.specs.declared.rule.Rule.TheVariants.{SetupIsThere, FromIsThere, ToIsThere, WorkIsThere, FromTypeFits, ToTypeFits, TimeOrBatch, TimeOrSample, BatchOrSample, FormatOfNoClock, FormatOrSeconds, PictureReads, BackToClock, BackFromEt, BackFromSeconds}

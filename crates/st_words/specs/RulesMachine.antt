@@ -1,7 +1,7 @@
 -- How the code tests the rules on the options together.
 use Rattle.std.specs.Prelude.{ℕ, Bool, true, false, not, ◌&&◌, is_some, List, find, Option, Some, None}
 use Rattle.st_dates.specs.declared.system.System.{System}
-use Rattle.st_dates.specs.declared.system.System.TheVariants.{Utc, Tai, Tt, Tdb, Sclk}
+use Rattle.st_dates.specs.declared.system.System.TheVariants.{Tdb, Sclk}
 use Rattle.st_words.specs.Kinds.{is_type_of}
 use Rattle.st_words.specs.Rules.{fault_of}
 use Rattle.st_picture.specs.declared.fault.PictureFault.{PictureFault}
@@ -14,7 +14,7 @@ use Rattle.st_words.specs.declared.options.Options.{Options}
 use Rattle.st_words.specs.declared.rule.Rule.{Rule}
 use Rattle.st_words.specs.declared.rule.Rule.TheVariants.{SetupIsThere, FromIsThere, ToIsThere, WorkIsThere, FromTypeFits, ToTypeFits, TimeOrBatch, TimeOrSample, BatchOrSample, FormatOfNoClock, FormatOrSeconds, PictureReads, BackToClock, BackFromEt, BackFromSeconds}
 use Rattle.st_words.specs.declared.time_type.TimeType.{TimeType}
-use Rattle.st_words.specs.declared.time_type.TimeType.TheVariants.{Scet, Seconds}
+use Rattle.st_words.specs.declared.time_type.TimeType.TheVariants.{Seconds}
 
 abbrev pub is_misfit : Option System → Option TimeType → Bool
 is_misfit (Some system) (Some kind) = not (is_type_of system kind)

@@ -1,6 +1,5 @@
 -- The texts of the faults of words, which are this project's own: a name in upper case, and what it names.
-use Rattle.std.specs.Prelude.{ℕ, List, [], ◌∷◌, ◌++◌, codes}
-use Rattle.st_text.specs.Ascii.{space}
+use Rattle.std.specs.Prelude.{ℕ, List, [], ◌++◌, codes}
 use Rattle.st_text.specs.Bytes.{decimal_digits}
 use Rattle.st_picture.specs.declared.fault.PictureFault.{PictureFault}
 use Rattle.st_picture.specs.declared.fault.PictureFault.TheVariants as pictures

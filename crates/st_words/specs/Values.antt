@@ -1,6 +1,6 @@
 -- The values of options: which words they are, and what they mean. Source: the CHRONOS User's Guide, for the names of systems
 -- and types, and for words that follow an option up to the next; the ranges are this project's own.
-use Rattle.std.specs.Prelude.{◌≡◌, ℕ, ◌≤◌, ◌^◌, ◌-◌, ◌⊎◌, List, [], ◌∷◌, ◌++◌, length, codes, IsTrue, ⊤}
+use Rattle.std.specs.Prelude.{◌≡◌, ℕ, ◌≤◌, ◌^◌, ◌-◌, ◌⊎◌, List, [], ◌∷◌, length, codes, IsTrue, ⊤}
 use Rattle.std.specs.List.{join_by}
 use Rattle.st_text.specs.Ascii.{dash, space}
 use Rattle.st_text.specs.Bytes.{are_digits, number_of}

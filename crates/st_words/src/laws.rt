@@ -1,6 +1,6 @@
 //! Laws of the definition by which words are told. Each function does nothing; its contract is the law.
 
-ghost use Rattle.st_words.specs.Laws.{EachHasAnswer, OneAnswer};
+ghost use Rattle.st_words.specs.Laws.{EachHasAnswer, EachJobIsSpelled, OneAnswer};
 
 /// No words have two answers.
 pub fn one_answer()
@@ -10,4 +10,10 @@ pub fn one_answer()
 /// All words have an answer.
 pub fn each_has_answer()
     ensures { EachHasAnswer }
+{}
+
+/// Each job that a session can be opened for has words that ask for it, where none of its texts names
+/// an option.
+pub fn each_job_is_spelled()
+    ensures { EachJobIsSpelled }
 {}

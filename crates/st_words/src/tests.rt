@@ -1,15 +1,9 @@
 //! Lists of words with their answers, written by hand from the rules. A blank stands between two
 //! words, so two blanks have an empty word between them.
 
-use crate::{
-    FromKind, IdFault, Job, SetupFault, ToKind, Work, put_word_fault, read_words, setup_clock,
-    setup_files,
-};
+use crate::{FromKind, Job, ToKind, Work, put_word_fault, read_words};
 use st_dates::System;
 use st_forms::Form;
-use st_kernel_text::read_kernel;
-use st_pool::Pool;
-use st_ticks::Var;
 use std::alloc::Global;
 use std::process::Abort;
 use std::test::Fail;
@@ -305,69 +299,6 @@ fn limits_names(rt: HostRuntime) -> Result<(), Fail> {
         }
         words.push(name)?;
         assert_eq!(rt; read_words(rt.alloc(), words.as_slice()).is_ok(), good);
-    }
-    Ok(())
-}
-
-/// A pool with a setup file of these lines.
-fn pool_of(alloc: Global, lines: &str) -> Result<Pool, Fail> {
-    let text = format!(in alloc; "\\begindata\n{lines}\n")?;
-    let mut pool = Pool::new(alloc);
-    pool.load(b"setup", read_kernel(alloc, text.as_bytes())?)?;
-    Ok(pool)
-}
-
-#[test]
-fn names_files(rt: HostRuntime) -> Result<(), Fail> {
-    let alloc = rt.alloc();
-    let both = pool_of(
-        alloc,
-        "SCLK_FILE = 'c'\nLEAPSECONDS_FILE = ( 'a' 'b' )\nSPACECRAFT_ID = -82",
-    )?;
-    let names = setup_files(alloc, &both)?;
-    assert_eq!(rt; names.len(), 3);
-    assert_eq!(rt;
-        names.get(0).map(|name| name.as_slice()),
-        Some(b"a".as_slice())
-    );
-    assert_eq!(rt;
-        names.get(2).map(|name| name.as_slice()),
-        Some(b"c".as_slice())
-    );
-    assert!(rt; setup_files(alloc, &Pool::new(alloc))?.is_empty());
-    let wrong = pool_of(alloc, "LEAPSECONDS_FILE = 1\nSCLK_FILE = 2")?;
-    assert!(rt;
-        matches!(
-            &setup_files(alloc, &wrong),
-            Err(SetupFault::WrongKind(Var::LeapsecondsFile))
-        )
-    );
-    let wrong = pool_of(alloc, "LEAPSECONDS_FILE = 'a'\nSCLK_FILE = 2")?;
-    assert!(rt;
-        matches!(
-            &setup_files(alloc, &wrong),
-            Err(SetupFault::WrongKind(Var::SclkFile))
-        )
-    );
-    Ok(())
-}
-
-#[test]
-fn names_clock(rt: HostRuntime) -> Result<(), Fail> {
-    let rows = [
-        ("SPACECRAFT_ID = -82", Ok(82)),
-        ("SPACECRAFT_ID = -999999999", Ok(999_999_999)),
-        ("SPACECRAFT_ID = -0.82D2", Ok(82)),
-        ("SPACECRAFT = -82", Err(IdFault::Missing)),
-        ("SPACECRAFT_ID = '-82'", Err(IdFault::WrongKind)),
-        ("SPACECRAFT_ID = 0", Err(IdFault::BadId)),
-        ("SPACECRAFT_ID = 82", Err(IdFault::BadId)),
-        ("SPACECRAFT_ID = -1000000000", Err(IdFault::BadId)),
-        ("SPACECRAFT_ID = -82.5", Err(IdFault::BadId)),
-        ("SPACECRAFT_ID = ( -82 -82 )", Err(IdFault::BadId)),
-    ];
-    for (line, wanted) in rows {
-        assert_eq!(rt; setup_clock(&pool_of(rt.alloc(), line)?), wanted, "{line}");
     }
     Ok(())
 }

@@ -1,5 +1,4 @@
-use Rattle.std.proofs.Common.{◌≡◌, ◌++◌, ◌∷◌, List, ℕ, refl, sym, ap, ◌∙◌, arith, drop, Global}
-use Rattle.std.specs.List.{flat_map}
+use Rattle.std.proofs.Common.{◌∙◌, Global}
 use Rattle.std.specs.Prelude.{string_bytes}
 use Rattle.st_words.proofs.Lists.{joined_is}
 use Rattle.st_words.proofs.choice.joined.Goals as goal

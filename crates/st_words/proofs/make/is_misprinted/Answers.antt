@@ -1,4 +1,3 @@
-use Rattle.std.proofs.Common.{◌≡◌, Bool, true, false, not}
 use Rattle.st_words.proofs.JobLaws.{not_true}
 use Rattle.st_words.proofs.make.is_misprinted.Goals as goal
 

@@ -1,4 +1,3 @@
-use Rattle.std.proofs.Common.{◌≡◌}
 use Rattle.st_words.proofs.Lists.{err_and}
 use Rattle.st_words.proofs.JobLaws.{picture_refuses}
 use Rattle.st_words.proofs.make.read_picture.Goals as goal

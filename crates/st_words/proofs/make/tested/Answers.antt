@@ -1,4 +1,4 @@
-use Rattle.std.proofs.Common.{◌≡◌, ◌≢◌, sym, ◌∙◌, true, false, None, Some, subst}
+use Rattle.std.proofs.Common.{◌≡◌, ◌≢◌, sym, ◌∙◌, subst}
 use Rattle.st_picture.specs.declared.fault.PictureFault.{PictureFault}
 use Rattle.st_words.specs.Rules.{RefusesPicture}
 use Rattle.st_words.specs.declared.fault.WordFault.{WordFault}

@@ -1,4 +1,4 @@
-use Rattle.std.proofs.Common.{◌≡◌, sym, ◌∙◌, arith, Global}
+use Rattle.std.proofs.Common.{◌∙◌, Global}
 use Rattle.std.specs.Prelude.{string_bytes}
 use Rattle.st_words.proofs.CutLaws.{loop_kept, loop_place}
 use Rattle.st_words.proofs.reading.read_options.Goals as goal

@@ -1,4 +1,4 @@
-use Rattle.std.proofs.Common.{◌≡◌, ℕ, sym, ap, ◌∙◌, Some, None, Ok, Result}
+use Rattle.std.proofs.Common.{◌≡◌, ℕ, sym, ap, ◌∙◌, Ok, Result}
 use Rattle.std.proofs.lemmas.Option.{same_Some}
 use Rattle.st_words.specs.declared.fault.IdFault.{IdFault}
 use Rattle.st_words.proofs.setup.named_clock.Goals as goal

@@ -1,4 +1,4 @@
-use Rattle.std.proofs.Common.{◌≡◌, sym, ap, ◌∙◌, Some, Option, arith}
+use Rattle.std.proofs.Common.{sym, ap, ◌∙◌, Some, Option}
 use Rattle.std.specs.Option.{option_copied}
 use Rattle.st_kernel_text.specs.declared.value.Value.{Value}
 use Rattle.st_pool.specs.Variable.{loaded_values}

@@ -1,10 +1,9 @@
-use Rattle.std.proofs.Common.{◌≡◌, ◌≢◌, sym, subst, Result, Ok, Err, Global}
+use Rattle.std.proofs.Common.{◌≡◌, ◌≢◌, sym, subst, Err, Global}
 use Rattle.std.specs.Prelude.{map, string_bytes}
 use Rattle.st_words.specs.Cut.{nothing}
 use Rattle.st_words.specs.WordsMachine.{read}
 use Rattle.st_words.specs.declared.fault.WordFault.{WordFault}
 use Rattle.st_words.specs.declared.fault.WordFault.TheVariants as faults
-use Rattle.st_words.specs.declared.options.Options.{Options}
 use Rattle.st_words.proofs.Lists.{err_and, if_err, if_ok}
 use Rattle.st_words.proofs.OneAnswer.{words_job, words_fault, words_refused}
 use Rattle.st_words.proofs.words.judged.Goals as goal
