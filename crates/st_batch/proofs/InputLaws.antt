@@ -13,7 +13,7 @@ use Rattle.st_batch.specs.declared.answer.Answer.{Answer}
 use Rattle.st_batch.specs.declared.input.TheConstants.{MAX_INPUT}
 use Rattle.st_words.specs.declared.job.Job.{Job}
 use Rattle.st_words.specs.declared.job.Work.{Work}
-use Rattle.st_words.specs.declared.job.Work.TheVariants.{Time, Batch}
+use Rattle.st_words.specs.declared.job.Work.TheVariants.{Time, Batch, Sample}
 use Rattle.st_batch.specs.declared.status.Status.{Status}
 use Rattle.st_batch.specs.declared.status.Status.TheVariants.{Done, SomeRefused, BadWords, BadSetup, ReadFault, WriteFault, OutOfMemory, InputTooLong}
 use Rattle.st_batch.specs.Causes.{AreCounted}
@@ -22,8 +22,8 @@ use Rattle.st_batch.specs.Outcome.{around, is_refused, Took, IsLongInput, IsRead
 use Rattle.st_batch.specs.Session.{RunsTo}
 use Rattle.st_batch.specs.Setting.{Loaded, Setting, State}
 use Rattle.st_batch.specs.Texts.{line_of}
-use Rattle.st_batch.specs.Words.{AreLines, IsShortInput}
-use Rattle.st_batch.specs.WordsMachine.{work_of}
+use Rattle.st_batch.specs.Lines.{AreLines, IsShortInput}
+use Rattle.st_batch.specs.LinesSteps.{work_of}
 use Rattle.st_batch.proofs.CutLaws.{cuts-none, ends-cut}
 use Rattle.st_batch.proofs.LinesLaws.{advances-none, counted-none, counted-later, finishes-after}
 use Rattle.st_batch.proofs.ReadLaws.{reads-join, halts-none, halts-after}
@@ -133,6 +133,7 @@ some-lines : (work : Work) (loaded : Loaded) (input : Option (List ℕ)) → (li
 some-lines (Time text) loaded input = (text ∷ [], refl)
 some-lines Batch loaded None = ([], tt)
 some-lines Batch loaded (Some bytes) = (lines_of bytes, refl)
+some-lines (Sample n seed) loaded input = ([], refl)
 
 -- memory ran out before the first line was answered
 pub none-answered : (before now : FilesState) (i : InputState) (session : State) (taken : Option (List ℕ)) → KeepsFiles before now
@@ -177,6 +178,7 @@ input-next input left next a b c y z piece n m long p eats q = record {
 lines-begin : (work : Work) (loaded : Loaded) (input left : Option (List ℕ)) (text : List ℕ) (lines : List (List ℕ)) → work ≡ Batch → Consumes input left text → EndsLines [] text lines
     → (more : List (List ℕ)) × AreLines work loaded input (lines ++ more)
 lines-begin (Time line) loaded input left text lines e p ends = absurd cc
+lines-begin (Sample n seed) loaded input left text lines e p ends = absurd cc
 lines-begin Batch loaded None left text lines e p ends = ([], tt)
 lines-begin Batch loaded (Some xs) None text lines e p ends = absurd p
 lines-begin Batch loaded (Some xs) (Some ys) text lines e p ends = ((ends ys).0, sym (ap lines_of p ∙ (ends ys).1))
@@ -185,6 +187,7 @@ lines-begin Batch loaded (Some xs) (Some ys) text lines e p ends = ((ends ys).0,
 lines-whole : (work : Work) (loaded : Loaded) (input left : Option (List ℕ)) (text begun : List ℕ) (lines : List (List ℕ)) → work ≡ Batch → Consumes input left text → IsAtEnd left
     → Cuts [] text lines begun → AreLines work loaded input (lines ++ lines_of begun)
 lines-whole (Time line) loaded input left text begun lines e p end cuts = absurd cc
+lines-whole (Sample n seed) loaded input left text begun lines e p end cuts = absurd cc
 lines-whole Batch loaded None left text begun lines e p end cuts = tt
 lines-whole Batch loaded (Some xs) None text begun lines e p end cuts = absurd p
 lines-whole Batch loaded (Some xs) (Some ys) text begun lines e p end cuts =
@@ -193,6 +196,7 @@ lines-whole Batch loaded (Some xs) (Some ys) text begun lines e p end cuts =
 -- a told input that was read to its end has as many bytes as were read
 short-input : (work : Work) (input left : Option (List ℕ)) (text : List ℕ) → Consumes input left text → IsAtEnd left → length text ≤ MAX_INPUT → IsShortInput work input
 short-input (Time line) input left text p end few = tt
+short-input (Sample n seed) input left text p end few = tt
 short-input Batch None left text p end few = tt
 short-input Batch (Some xs) None text p end few = absurd p
 short-input Batch (Some xs) (Some ys) text p end few = omega (arith, ap length (p ∙ ap (λ (l : List ℕ). text ++ l) end ∙ append-nil text))
@@ -200,6 +204,7 @@ short-input Batch (Some xs) (Some ys) text p end few = omega (arith, ap length (
 whole-input : (work : Work) (left : Option (List ℕ)) → IsAtEnd left → IsReadWhole work left
 whole-input (Time line) left end = tt
 whole-input Batch left end = end
+whole-input (Sample n seed) left end = tt
 
 -- a told input has at least as many bytes as were read
 long-input : (input left : Option (List ℕ)) (text : List ℕ) → Consumes input left text → MAX_INPUT < length text → IsLongInput input

@@ -14,28 +14,27 @@ use Rattle.st_batch.specs.OutputSteps.{Delivers, IsCut}
 use Rattle.st_batch.specs.Setting.{Loaded, State, setting}
 use Rattle.st_batch.specs.Setup.{SetupGives}
 use Rattle.st_batch.specs.Texts.{setup_line, words_line}
-use Rattle.st_words.specs.Reading.{WordsGive}
+use Rattle.st_batch.specs.Words.{WordsAsk}
 use Rattle.st_batch.proofs.InputLaws.{Gives}
 
 -- a job was opened, and its lines answered as far as the run came
-lines-ended : (o : Outside) (words : List (List ℕ)) (job : Job) (loaded : Loaded) (status : Status) (bytes : List ℕ)
-    → WordsGive words (Ok job) → SetupGives (over o job) (Ok loaded) → LinesOutcome o job loaded status bytes → Outcome o words status bytes
-lines-ended o words job loaded Done bytes asked setup h = record { job = job; loaded = loaded; asked = asked; setup = setup; lines = h }
-lines-ended o words job loaded SomeRefused bytes asked setup h = record { job = job; loaded = loaded; asked = asked; setup = setup; lines = h }
-lines-ended o words job loaded (BadWords w) bytes asked setup h = absurd h
-lines-ended o words job loaded (BadSetup c) bytes asked setup h = absurd h
-lines-ended o words job loaded ReadFault bytes asked setup h = record { job = job; loaded = loaded; asked = asked; setup = setup; lines = h }
-lines-ended o words job loaded InputTooLong bytes asked setup h = record { job = job; loaded = loaded; asked = asked; setup = setup; lines = h }
-lines-ended o words job loaded WriteFault bytes asked setup h = inl (record { job = job; loaded = loaded; asked = asked; setup = setup; lines = h })
-lines-ended o words job loaded OutOfMemory bytes asked setup h = inl (record { job = job; loaded = loaded; asked = asked; setup = setup; lines = h })
+lines-ended : (o : Outside) (words : List (List ℕ)) (job : Job) (session : State) (status : Status) (bytes : List ℕ)
+    → WordsAsk words (Ok job) → SetupGives (over o job) (Ok session) → LinesOutcome o session.job session.loaded status bytes → Outcome o words status bytes
+lines-ended o words job session Done bytes asked setup h = record { job = job; session = session; asked = asked; setup = setup; lines = h }
+lines-ended o words job session SomeRefused bytes asked setup h = record { job = job; session = session; asked = asked; setup = setup; lines = h }
+lines-ended o words job session (BadWords w) bytes asked setup h = absurd h
+lines-ended o words job session (BadSetup c) bytes asked setup h = absurd h
+lines-ended o words job session ReadFault bytes asked setup h = record { job = job; session = session; asked = asked; setup = setup; lines = h }
+lines-ended o words job session InputTooLong bytes asked setup h = record { job = job; session = session; asked = asked; setup = setup; lines = h }
+lines-ended o words job session WriteFault bytes asked setup h = inl (record { job = job; session = session; asked = asked; setup = setup; lines = h })
+lines-ended o words job session OutOfMemory bytes asked setup h = inl (record { job = job; session = session; asked = asked; setup = setup; lines = h })
 
 -- the same of what the output took
 pub lines-outcome : (before now : FilesState) (i j : InputState) (taken after : Option (List ℕ)) (words : List (List ℕ)) (job : Job) (session : State) (status : Status)
-    → session.job ≡ job → WordsGive words (Ok job) → SetupGives (setting before.map session) (Ok session.loaded) → Took taken after (Gives before now i j session status)
+    → WordsAsk words (Ok job) → SetupGives (record { files = before.map; job = job }) (Ok session) → Took taken after (Gives before now i j session status)
     → Took taken after (Outcome (around before now i j) words status)
-lines-outcome before now i j taken after words job session status same asked setup (bytes, appends, h) =
-    let P : Job → Type 0 = λ b. WordsGive words (Ok b) in
-    (bytes, appends, lines-ended (around before now i j) words session.job session.loaded status bytes (subst P (sym same) asked) setup h)
+lines-outcome before now i j taken after words job session status asked setup (bytes, appends, h) =
+    (bytes, appends, lines-ended (around before now i j) words job session status bytes asked setup h)
 
 cut-off : (o : Outside) (words : List (List ℕ)) (status : Status) (bytes : List ℕ) → IsCut status → ((s : Status) → IsCutOff o words s bytes) → Outcome o words status bytes
 cut-off o words Done bytes cut b = absurd cut
@@ -49,7 +48,7 @@ cut-off o words OutOfMemory bytes cut b = b OutOfMemory
 
 -- a setup that was refused
 pub setup-outcome : (o : Outside) (words : List (List ℕ)) (job : Job) (cause : LineFault) (status : Status) (taken after : Option (List ℕ))
-    → WordsGive words (Ok job) → SetupGives (over o job) (Err cause) → IsCaused cause o.files.counts o.files_after.counts → o.input_after ≡ o.input
+    → WordsAsk words (Ok job) → SetupGives (over o job) (Err cause) → IsCaused cause o.files.counts o.files_after.counts → o.input_after ≡ o.input
     → Delivers (setup_line cause) (BadSetup cause) taken after status → Took taken after (Outcome o words status)
 setup-outcome o words job cause status taken after asked given caused unread (inl (appends, same)) =
     let P : Status → Type 0 = λ s. Outcome o words s (setup_line cause) in
@@ -62,7 +61,7 @@ setup-outcome o words job cause status taken after asked given caused unread (in
 )
 
 -- words that were refused
-pub words-outcome : (o : Outside) (words : List (List ℕ)) (fault : WordFault) (status : Status) (taken after : Option (List ℕ)) → WordsGive words (Err fault)
+pub words-outcome : (o : Outside) (words : List (List ℕ)) (fault : WordFault) (status : Status) (taken after : Option (List ℕ)) → WordsAsk words (Err fault)
     → Delivers (words_line fault) (BadWords fault) taken after status → Took taken after (Outcome o words status)
 words-outcome o words fault status taken after given (inl (appends, same)) =
     let P : Status → Type 0 = λ s. Outcome o words s (words_line fault) in
@@ -76,11 +75,11 @@ nothing-done o words taken unread = ([], Appends-nil taken, inr (inr (record { u
 
 -- a run whose lines were answered had nothing to read only where its job is of one line
 pub no-input : (before now : FilesState) (i j : InputState) (taken after : Option (List ℕ)) (words : List (List ℕ)) (job : Job) (session : State) (status : Status)
-    → session.job ≡ job → WordsGive words (Ok job) → Took taken after (Gives before now i j session status) → ReadsNothing words status → session.job.work ≢ Batch
+    → session.job.work ≡ job.work → WordsAsk words (Ok job) → Took taken after (Gives before now i j session status) → ReadsNothing words status → session.job.work ≢ Batch
 no-input before now i j taken after words job session status same asked (bytes, appends, h) nothing = by status h nothing
   where
-    of : ((other : Job) → AskFor words other → other.work ≡ Batch → ⊥) → session.job.work ≢ Batch
-    of none = λ e. none job asked (ap (λ (b : Job). b.work) (sym same) ∙ e)
+    of : ((other : Job) → WordsAsk words (Ok other) → other.work ≡ Batch → ⊥) → session.job.work ≢ Batch
+    of none = λ e. none job asked (sym same ∙ e)
 
     by : (status : Status) → Gives before now i j session status bytes → ReadsNothing words status → session.job.work ≢ Batch
     by Done h none = of none

@@ -20,7 +20,7 @@ use Rattle.st_batch.specs.Session.{MayAnswer, TextGives}
 use Rattle.st_batch.specs.Setting.{Loaded, Setting}
 use Rattle.st_batch.specs.Times.{TimeGives}
 use Rattle.st_batch.proofs.SetupLaws.{given-line}
-use Rattle.st_batch.proofs.TimesLaws as times
+use Rattle.st_batch.proofs.TimeAnswers as times
 
 -- a loading that was refused is answered so, and leaves the loaded list
 pub load-refused : {E : Type 0} (files : Option Entries) (loaded after : Loaded) (name : List ℕ) (fault : KernelFault) (r : Result Answer E)
@@ -51,18 +51,10 @@ time-text files job loaded text (Ok answer) time given = inr (time, given, refl)
 time-text files job loaded text (Err error) time given = tt
 
 -- and wants no cause
-no-cause : (job : Job) (loaded : Loaded) (text : List ℕ) (answer : Answer) (before now : FileCounts) → TimeGives job loaded text answer → IsAnswerCaused answer before now
-no-cause job loaded text answer before now (inl h) = subst (λ (a : Answer). IsAnswerCaused a before now) (sym h.answered) tt
-no-cause job loaded text answer before now (inr (inl h)) = subst (λ (a : Answer). IsAnswerCaused a before now) (sym h.answered) tt
-no-cause job loaded text answer before now (inr (inr h)) = subst (λ (a : Answer). IsAnswerCaused a before now) (sym h.answered) tt
-
-pub time-caused : {E : Type 0} (loaded : Loaded) (text : List ℕ) (before now : FileCounts) (r : Result Answer E) → ((job : Job) → IfOk r (TimeGives job loaded text))
+pub time-caused : {E : Type 0} (job : Job) (loaded : Loaded) (text : List ℕ) (before now : FileCounts) (r : Result Answer E) → IfOk r (TimeGives job loaded text)
     → IfOk r (λ answer. IsAnswerCaused answer before now)
-time-caused loaded text before now (Ok answer) given = no-cause any loaded text answer before now (given any)
-  where
-    any : Job
-    any = record { setup = []; work = Batch }
-time-caused loaded text before now (Err error) given = tt
+time-caused job loaded text before now (Ok answer) given = times.no-cause job loaded text answer before now given
+time-caused job loaded text before now (Err error) given = tt
 
 -- no answer is want of memory
 refused-is : (a b : LineFault) → ◌≡◌ {A = Answer} (Refused a) (Refused b) → a ≡ b

@@ -14,9 +14,9 @@ use Rattle.st_batch.specs.Limits.{most_input_bytes}
 use Rattle.st_batch.specs.Load.{LoadGives}
 use Rattle.st_batch.specs.Outcome.{HaveEnded, Outcome, Outside, over}
 use Rattle.st_batch.specs.Session.{MayAnswer, RunsTo}
-use Rattle.st_batch.specs.Setting.{Loaded, Setting}
+use Rattle.st_batch.specs.Setting.{Loaded, Setting, State}
 use Rattle.st_batch.specs.Setup.{SetupGives}
-use Rattle.st_words.specs.Reading.{WordsGive}
+use Rattle.st_batch.specs.Words.{WordsAsk}
 
 -- the run was not cut off
 abbrev pub IsComplete : Status → Type 0
@@ -92,6 +92,6 @@ IsAnsweredOrCut status = ⊤
 -- the setup is refused for a fault of the files or the run is cut off.
 abbrev pub GoodRunIsAnswered : Type 0
 GoodRunIsAnswered =
-    (o : Outside) (files : Entries) (input : List ℕ) (words : List (List ℕ)) (job : Job) (loaded : Loaded) (status : Status) (bytes : List ℕ)
-    → o.files.map ≡ Some files → o.input.left ≡ Some input → WordsGive words (Ok job) → SetupGives (over o job) (Ok loaded) → length input ≤ most_input_bytes
+    (o : Outside) (files : Entries) (input : List ℕ) (words : List (List ℕ)) (job : Job) (session : State) (status : Status) (bytes : List ℕ)
+    → o.files.map ≡ Some files → o.input.left ≡ Some input → WordsAsk words (Ok job) → SetupGives (over o job) (Ok session) → length input ≤ most_input_bytes
     → Outcome o words status bytes → IsAnsweredOrCut status

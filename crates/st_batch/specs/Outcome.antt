@@ -19,7 +19,7 @@ use Rattle.st_batch.specs.Session.{RunsTo}
 use Rattle.st_batch.specs.Setting.{Loaded, Setting, State}
 use Rattle.st_batch.specs.Setup.{SetupGives}
 use Rattle.st_batch.specs.Texts.{line_of, setup_line, words_line}
-use Rattle.st_words.specs.Reading.{WordsGive}
+use Rattle.st_batch.specs.Words.{WordsAsk}
 use Rattle.st_batch.specs.Lines.{AreLines, IsShortInput}
 
 -- what a run writes for the answers of its lines: each as a line of its own
@@ -123,19 +123,19 @@ LinesOutcome o job loaded status bytes = ⊥
 pub record LinesEnded (o : Outside) (words : List (List ℕ)) (status : Status) (bytes : List ℕ) : Type 0 where
   pub job : Job
   pub session : State
-  pub asked : WordsGive words (Ok job)
+  pub asked : WordsAsk words (Ok job)
   pub setup : SetupGives (over o job) (Ok session)
   pub lines : LinesOutcome o session.job session.loaded status bytes
 
 -- the words were refused
 pub record WordsRefused (words : List (List ℕ)) (fault : WordFault) (bytes : List ℕ) : Type 0 where
-  pub given : WordsGive words (Err fault)
+  pub given : WordsAsk words (Err fault)
   pub written : bytes ≡ words_line fault
 
 -- the setup was refused, and nothing read of the input
 pub record SetupRefused (o : Outside) (words : List (List ℕ)) (cause : LineFault) (bytes : List ℕ) : Type 0 where
   pub job : Job
-  pub asked : WordsGive words (Ok job)
+  pub asked : WordsAsk words (Ok job)
   pub given : SetupGives (over o job) (Err cause)
   pub caused : IsCaused cause o.files.counts o.files_after.counts
   pub unread : o.input_after ≡ o.input
@@ -177,4 +177,4 @@ IsAnswered status = ⊥
 abbrev pub ReadsNothing : List (List ℕ) → Status → Type 0
 ReadsNothing words (BadWords fault) = ⊤
 ReadsNothing words (BadSetup cause) = ⊤
-ReadsNothing words status = (job : Job) → WordsGive words (Ok job) → job.work ≡ Batch → ⊥
+ReadsNothing words status = (job : Job) → WordsAsk words (Ok job) → job.work ≡ Batch → ⊥

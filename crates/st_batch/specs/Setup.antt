@@ -4,13 +4,14 @@ use Rattle.std.specs.Prelude.{◌≡◌, ℕ, Bool, true, false, ◌&&◌, ◌||
 use Rattle.st_outside.specs.Entries.{Entries}
 use Rattle.st_ticks.specs.declared.variable.Var.{Var}
 use Rattle.st_ticks.specs.declared.variable.Var.TheVariants.{SpacecraftId}
-use Rattle.st_words.specs.Setup.{SetupFilesGive, SetupClockGives}
+use Rattle.st_words.specs.Setup.{SetupClock, SetupFiles}
 use Rattle.st_words.specs.declared.job.Job.{Job}
-use Rattle.st_words.specs.declared.setup.IdFault.{IdFault}
-use Rattle.st_words.specs.declared.setup.IdFault.TheVariants as id
-use Rattle.st_words.specs.declared.setup.SetupFault.TheVariants as setup
+use Rattle.st_words.specs.declared.fault.IdFault.{IdFault}
+use Rattle.st_words.specs.declared.fault.IdFault.TheVariants as id
+use Rattle.st_words.specs.declared.fault.SetupFault.{SetupFault}
+use Rattle.st_words.specs.declared.fault.SetupFault.TheVariants as setup
 use Rattle.st_batch.specs.declared.fault.LineFault.{LineFault}
-use Rattle.st_batch.specs.declared.fault.LineFault.TheVariants.{NoVariable, WrongKind, BadId}
+use Rattle.st_batch.specs.declared.fault.LineFault.TheVariants.{NoVariable, WrongKind, BadId, OutOfMemory}
 use Rattle.st_batch.specs.declared.kernel_fault.KernelFault.{KernelFault}
 use Rattle.st_batch.specs.Load.{LoadGives, line_fault}
 use Rattle.st_batch.specs.Setting.{Loaded, Setting, State}
@@ -43,8 +44,13 @@ asks_clock job = has_clock job && is_none job.clock
 -- the job as it is, or with the clock that the loaded kernels name
 abbrev pub ClockGives : Bool → Job → Loaded → Result Job IdFault → Type 0
 ClockGives false job loaded result = result ≡ Ok job
-ClockGives true job loaded (Ok after) = (n : ℕ) × SetupClockGives loaded (Ok n) × (after ≡ with_clock job n)
-ClockGives true job loaded (Err fault) = SetupClockGives loaded (Err fault)
+ClockGives true job loaded (Ok after) = (n : ℕ) × SetupClock loaded (Ok n) × (after ≡ with_clock job n)
+ClockGives true job loaded (Err fault) = SetupClock loaded (Err fault)
+
+-- the refusal of a setup that names no files
+abbrev pub files_fault : SetupFault → LineFault
+files_fault (setup.WrongKind var) = WrongKind var
+files_fault setup.OutOfMemory = OutOfMemory
 
 -- the refusal of a setup that names no clock
 abbrev pub id_fault : IdFault → LineFault
@@ -55,13 +61,13 @@ id_fault id.BadId = BadId
 -- the setup file is loaded under its own name into the empty list, and asks for the files of these names
 pub record Begins (s : Setting) (first : Loaded) (names : List (List ℕ)) : Type 0 where
   pub loaded : LoadGives s.files [] s.job.setup (Ok first)
-  pub named : SetupFilesGive first (Ok names)
+  pub named : SetupFiles first (Ok names)
 
 -- It is refused as it is loaded; for the kind of the variables that name files; for the clock; or as these files are loaded.
 abbrev pub SetupRefuses : Setting → LineFault → Type 0
 SetupRefuses s fault =
     ((cause : KernelFault) × LoadGives s.files [] s.job.setup (Err cause) × (fault ≡ line_fault cause))
-    ⊎ (((first : Loaded) × (var : Var) × LoadGives s.files [] s.job.setup (Ok first) × SetupFilesGive first (Err (setup.WrongKind var)) × (fault ≡ WrongKind var))
+    ⊎ (((first : Loaded) × (var : Var) × LoadGives s.files [] s.job.setup (Ok first) × SetupFiles first (Err (setup.WrongKind var)) × (fault ≡ WrongKind var))
     ⊎ (((first : Loaded) × (names : List (List ℕ)) × (cause : IdFault) × Begins s first names × ClockGives (asks_clock s.job) s.job first (Err cause) × (fault ≡ id_fault cause))
     ⊎ ((first : Loaded) × (names : List (List ℕ)) × (job : Job) × (cause : KernelFault) × Begins s first names
         × ClockGives (asks_clock s.job) s.job first (Ok job) × LoadsGive s.files first names (Err cause) × (fault ≡ line_fault cause))))

@@ -15,7 +15,7 @@ use Rattle.st_ticks.specs.declared.fault.ClockTextFault.TheVariants as clock
 use Rattle.st_ticks.specs.declared.variable.ClockWhy.{ClockWhy}
 use Rattle.st_ticks.specs.declared.variable.ClockWhy.TheVariants as why
 use Rattle.st_ticks.specs.declared.variable.Var.TheVariants.{Clock}
-use Rattle.st_words.specs.Texts.{word_text}
+use Rattle.st_words.specs.Text.{fault_text}
 use Rattle.st_words.specs.declared.fault.WordFault.{WordFault}
 use Rattle.st_batch.specs.declared.answer.Answer.{Answer}
 use Rattle.st_batch.specs.declared.answer.Answer.TheVariants.{Text, Refused}
@@ -137,7 +137,7 @@ setup_line cause = codes "bad setup " ++ (refusal_text cause ++ (10 ∷ []))
 
 -- the line that says why the words are refused
 abbrev pub words_line : WordFault → List ℕ
-words_line fault = codes "bad words " ++ (word_text fault ++ (10 ∷ []))
+words_line fault = codes "bad words " ++ (fault_text fault ++ (10 ∷ []))
 
 -- the exit status
 abbrev pub code_of : Status → ℕ

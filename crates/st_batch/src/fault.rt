@@ -3,9 +3,8 @@
 use crate::kernel_fault::KernelFault;
 use st_kernel_text::TextCause;
 use st_leaps::LeapFault;
-use st_routes::TimeFault;
 use st_scales::DeltetFault;
-use st_ticks::{ClockFault, ClockTextFault, ClockVar, ClockWhy, Var};
+use st_ticks::{ClockTextFault, ClockVar, ClockWhy, Var};
 use st_words::{IdFault, SetupFault};
 use thiserror::Error;
 
@@ -91,6 +90,7 @@ pub enum LineFault {
 }
 
 impl From<KernelFault> for LineFault {
+    ghost use Rattle.std.specs.Prelude.{◌≡◌};
     ghost use Rattle.st_batch.specs.Load.{line_fault};
 
     ghost from_gives = { λ fault e. e ≡ line_fault fault };
@@ -104,6 +104,35 @@ impl From<KernelFault> for LineFault {
             KernelFault::TooManyKernels => LineFault::TooManyKernels,
             KernelFault::TooManyValues => LineFault::TooManyValues,
             KernelFault::OutOfMemory => LineFault::OutOfMemory,
+        }
+    }
+}
+
+impl From<SetupFault> for LineFault {
+    ghost use Rattle.std.specs.Prelude.{◌≡◌};
+    ghost use Rattle.st_batch.specs.Setup.{files_fault};
+
+    ghost from_gives = { λ fault e. e ≡ files_fault fault };
+
+    fn from(fault: SetupFault) -> LineFault {
+        match fault {
+            SetupFault::WrongKind(var) => LineFault::WrongKind(var),
+            SetupFault::OutOfMemory => LineFault::OutOfMemory,
+        }
+    }
+}
+
+impl From<IdFault> for LineFault {
+    ghost use Rattle.std.specs.Prelude.{◌≡◌};
+    ghost use Rattle.st_batch.specs.Setup.{id_fault};
+
+    ghost from_gives = { λ fault e. e ≡ id_fault fault };
+
+    fn from(fault: IdFault) -> LineFault {
+        match fault {
+            IdFault::Missing => LineFault::NoVariable(Var::SpacecraftId),
+            IdFault::WrongKind => LineFault::WrongKind(Var::SpacecraftId),
+            IdFault::BadId => LineFault::BadId,
         }
     }
 }

@@ -7,7 +7,8 @@ ghost use Rattle.st_text.specs.Lines as lines;
 ghost use Rattle.st_batch.specs.Limits.{most_input_bytes};
 ghost use Rattle.st_batch.specs.LinesSteps.{AnswersLine, CutsAtFeed, Finishes, FinishesWriting, ReadsText, StopsInText, moment};
 ghost use Rattle.st_batch.specs.Outcome.{HasNoFeed, IsAnswered, LinesOutcome, Took, around};
-ghost use Rattle.st_batch.specs.WordsMachine.{work_of};
+ghost use Rattle.st_batch.specs.LinesSteps.{work_of};
+ghost use Rattle.st_batch.specs.Words.{is_sample};
 
 use crate::answering::Answering;
 use st_words::Work;
@@ -32,6 +33,7 @@ pub fn answer_lines<F: Files, I: Source, O: Sink>(
     input: &mut I,
     out: &mut O,
 ) -> Status
+    requires { is_sample session.job.work ≡ false }
     ensures told { (before : FilesState) → KeepsFiles before (F.state files.old)
         → Took (O.bytes out.old) (O.bytes out.new) (LinesOutcome
         (around before (F.state files.new) (I.state input.old) (I.state input.new)) session.job session.loaded result) }
@@ -55,11 +57,12 @@ pub fn answer_lines<F: Files, I: Source, O: Sink>(
 
 /// The one line that is to be answered, where the words give it: the session keeps its own.
 fn given_line(alloc: Global, work: &Work) -> Result<Option<Line>, OutOfMemory>
+    requires { is_sample work.now ≡ false }
     ensures { IfOk result (λ line. work.now ≡ work_of line) }
 {
     match work {
         Work::Time(text) => Ok(Some(Line::from_slice(alloc, text.as_slice())?)),
-        Work::Batch => Ok(None),
+        Work::Batch | Work::Sample { .. } => Ok(None),
     }
 }
 

@@ -1,31 +1,30 @@
 //! The session of `chronos`: from its words to its output.
 //!
 //! [`run`] does all that the program does, and its contract is the project's theorem. Below it stand the parts
-//! that it is made of: the words, the [`Session`] with the kernels that are loaded, its commands, UTC times with the
-//! table of leap seconds, the lines of the input, and the answers.
+//! that it is made of: the [`Session`] with the setup and the kernels that are loaded, its commands and its times, the
+//! lines of the input, and the answers.
 #![tactic(auto)]
 
 mod answer;
 mod answering;
 mod command;
-mod convert;
 mod fault;
 mod input;
-mod job;
+mod kernel_fault;
 pub mod laws;
-mod leap_table;
 mod load;
+mod refusal;
 mod session;
+mod setup;
 mod status;
+mod time;
 mod top;
-mod utc_time;
-mod variable;
 mod words;
 mod write;
 
-pub use crate::answer::{Answer, put_refusal};
-pub use crate::fault::{LineFault, WordFault};
-pub use st_words::{Job, Work};
+pub use crate::answer::Answer;
+pub use crate::fault::LineFault;
+pub use crate::refusal::put_refusal;
 pub use crate::session::Session;
 pub use crate::status::Status;
 pub use crate::top::run;

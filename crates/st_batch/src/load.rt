@@ -36,6 +36,7 @@ pub fn load_file<F: Files>(
     ensures err { IfErr result (λ fault. fault ≢ KernelFault.OutOfMemory → LoadGives (F.state files.old).map pool.old name.now (Err fault)) }
     ensures refused { OnErr result (pool.new ≡ pool.old) }
     ensures cause { IfErr result (λ fault. IsCaused (line_fault fault) (F.state files.old).counts (F.state files.new).counts) }
+    ensures clean { OnOk result ((F.state files.new).counts.faults ≡ (F.state files.old).counts.faults) }
     ensures closed { (F.state files.new).opened ≡ false }
     ensures files { KeepsFiles (F.state files.old) (F.state files.new) }
 {
@@ -54,6 +55,7 @@ fn read_file<F: Files>(
     ensures err { IfErr result (λ fault. fault ≢ KernelFault.OutOfMemory
         → (loaded : Loaded) → LoadGives (F.state files.old).map loaded name.now (Err fault)) }
     ensures cause { IfErr result (λ fault. IsCaused (line_fault fault) (F.state files.old).counts (F.state files.new).counts) }
+    ensures clean { OnOk result ((F.state files.new).counts.faults ≡ (F.state files.old).counts.faults) }
     ensures closed { (F.state files.new).opened ≡ false }
     ensures files { KeepsFiles (F.state files.old) (F.state files.new) }
 {
@@ -75,6 +77,7 @@ fn read_open<F: Files>(alloc: Global, files: &mut F) -> Result<AssignmentList, K
     ensures ok { IfOk result (λ list. RestReads (F.state files.old).left (Ok list)) }
     ensures err { IfErr result (RestRefuses (F.state files.old).left) }
     ensures cause { IfErr result (λ fault. IsCaused (line_fault fault) (F.state files.old).counts (F.state files.new).counts) }
+    ensures clean { OnOk result ((F.state files.new).counts.faults ≡ (F.state files.old).counts.faults) }
     ensures map { (F.state files.new).map ≡ (F.state files.old).map }
     ensures misses { (F.state files.new).counts.misses ≡ (F.state files.old).counts.misses }
     ensures later { AreLater (F.state files.old).counts (F.state files.new).counts }
@@ -93,6 +96,7 @@ fn feed_open<F: Files>(reader: &mut KernelReader, files: &mut F) -> Result<(), K
     ensures ok { OnOk result (FedRest (F.state files.old).left reader.new) }
     ensures err { IfErr result (Stops (F.state files.old).left) }
     ensures cause { IfErr result (λ fault. IsCaused (line_fault fault) (F.state files.old).counts (F.state files.new).counts) }
+    ensures clean { OnOk result ((F.state files.new).counts.faults ≡ (F.state files.old).counts.faults) }
     ensures map { (F.state files.new).map ≡ (F.state files.old).map }
     ensures misses { (F.state files.new).counts.misses ≡ (F.state files.old).counts.misses }
     ensures later { AreLater (F.state files.old).counts (F.state files.new).counts }

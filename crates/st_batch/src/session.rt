@@ -1,25 +1,28 @@
 //! The session: a job with its loaded kernels, and how it answers lines.
 
 ghost use Rattle.std.specs.Prelude.{◌≡◌, ◌≢◌, ◌≤◌, true, false, Ok, Err, IfOk, IfErr, OnErr};
-ghost use Rattle.st_text.specs.Lines.{trimmed};
+ghost use Rattle.st_answers.specs.Ready.{IsReady};
 ghost use Rattle.st_outside.specs.States.{KeepsFiles};
+ghost use Rattle.st_text.specs.Lines.{trimmed};
+ghost use Rattle.st_words.specs.Job.{IsGoodJob};
 ghost use Rattle.st_batch.specs.Causes.{IsAnswerCaused, IsCaused};
 ghost use Rattle.st_batch.specs.Commands.{IsNoLoad, begins_command};
 ghost use Rattle.st_batch.specs.Session.{MayAnswer, TextGives};
 ghost use Rattle.st_batch.specs.Setting.{setting};
 ghost use Rattle.st_batch.specs.Setup.{SetupGives};
-ghost use Rattle.st_words.specs.declared.job.Job.{Job};
 
-use crate::answer::{Answer, time_answer};
+use crate::answer::Answer;
 use crate::command::{answer_command, is_command};
 use crate::fault::LineFault;
-use crate::setup::open_setup;
+use crate::load::load_file;
+use crate::setup::{find_clock, load_files};
+use crate::time;
 use st_decimal::OutOfMemory;
 use st_outside::Files;
 use st_pool::Pool;
 use st_tables::Tables;
 use st_text::trim;
-use st_words::Job;
+use st_words::{Job, setup_files};
 use std::alloc::Global;
 use std::marker::Model;
 
@@ -37,6 +40,7 @@ pub struct Session {
 }
 
 impl Model for Session {
+    ghost use Rattle.st_answers.specs.Ready.{IsReady};
     ghost use Rattle.st_batch.specs.Setting.{State};
 
     ghost Value = { State };
@@ -47,14 +51,18 @@ impl Model for Session {
 }
 
 impl Session {
-    /// The session of a job: its setup file is loaded under its own name. The session keeps the allocator.
+    /// The session of a job: its setup file is loaded under its own name, then the files that the loaded setup names by
+    /// `LEAPSECONDS_FILE` and by `SCLK_FILE`; where a side is a clock and the job names none, it is that of
+    /// `SPACECRAFT_ID`. The session keeps the allocator.
+    ///
+    /// Source: the CHRONOS User's Guide, on the setup file.
     ///
     /// # Errors
     ///
-    /// Why the setup isn't loaded.
+    /// Why a file isn't loaded, or `WrongKind` of a variable that names files, or why the setup names no clock.
     pub fn open<F: Files>(alloc: Global, job: Job, files: &mut F) -> Result<Session, LineFault>
-        ensures job { IfOk result (λ session. session.job ≡ job) }
-        ensures ok { IfOk result (λ session. SetupGives (setting (F.state files.old).map session) (Ok session.loaded)) }
+        requires { IsGoodJob job }
+        ensures ok { IfOk result (λ session. SetupGives (record { files = (F.state files.old).map; job = job }) (Ok session)) }
         ensures err { IfErr result (λ fault. fault ≢ LineFault.OutOfMemory
             → SetupGives (record { files = (F.state files.old).map; job = job }) (Err fault)) }
         ensures cause { IfErr result (λ fault. IsCaused fault (F.state files.old).counts (F.state files.new).counts) }
@@ -63,7 +71,15 @@ impl Session {
     {
         let mut pool = Pool::new(alloc);
         load_file(alloc, &mut pool, job.setup.as_slice(), files)?;
-        Ok(Session { alloc, job, pool })
+        let names = setup_files(alloc, &pool)?;
+        let job = find_clock(job, &pool)?;
+        load_files(alloc, &mut pool, names.as_slice(), files)?;
+        Ok(Session {
+            alloc,
+            job,
+            pool,
+            tables: Tables::new(alloc),
+        })
     }
 
     /// The job.
@@ -103,7 +119,14 @@ impl Session {
         if line.len() > MAX_LINE {
             return Ok(Answer::Refused(LineFault::LineTooLong));
         }
-        answer_text(self.alloc, &mut self.pool, trim(line), files)
+        answer_text(
+            self.alloc,
+            &self.job,
+            &mut self.pool,
+            &mut self.tables,
+            trim(line),
+            files,
+        )
     }
 
     /// The answer of a line without its end that begins with `$`: `$load N`, `$unload N` or `$clear`.
@@ -134,12 +157,15 @@ impl Session {
 /// The answer of a text between the blanks of a line, and what it does to the loaded kernels.
 fn answer_text<F: Files>(
     alloc: Global,
+    job: &Job,
     pool: &mut Pool,
+    tables: &mut Tables,
     text: &[u8],
     files: &mut F,
 ) -> Result<Answer, OutOfMemory>
-    ensures answered { (job : Job) → IfOk result (λ answer.
-        TextGives (record { files = (F.state files.old).map; job = job }) pool.old text.now answer pool.new) }
+    requires { IsReady job.now }
+    ensures answered { IfOk result (λ answer.
+        TextGives (record { files = (F.state files.old).map; job = job.now }) pool.old text.now answer pool.new) }
     ensures err { OnErr result (pool.new ≡ pool.old) }
     ensures cause { IfOk result (λ answer. IsAnswerCaused answer (F.state files.old).counts (F.state files.new).counts) }
     ensures files { KeepsFiles (F.state files.old) (F.state files.new) }
@@ -148,6 +174,6 @@ fn answer_text<F: Files>(
     if is_command(text) {
         answer_command(alloc, pool, text, files)
     } else {
-        answer_time(alloc, pool, text)
+        time::answer_text(alloc, job, pool, tables, text)
     }
 }

@@ -1,22 +1,27 @@
 //! The setup of a job: the kernels that its file names, and the clock.
 
 ghost use Rattle.std.specs.Prelude.{◌≡◌, ◌≢◌, [], false, Ok, Err, IfOk, IfErr, OnOk, OnErr};
+ghost use Rattle.st_answers.specs.Sides as sides;
 ghost use Rattle.st_outside.specs.States.{KeepsFiles};
 ghost use Rattle.st_batch.specs.Causes.{IsCaused};
-ghost use Rattle.st_batch.specs.Load.{LoadGives, line_fault};
-ghost use Rattle.st_batch.specs.Setup.{Begins, ClockGives, LoadsGive, SetupGives, asks_clock};
+ghost use Rattle.st_batch.specs.Load.{line_fault};
+ghost use Rattle.st_batch.specs.Setup.{ClockGives, LoadsGive, asks_clock};
 
-use crate::fault::LineFault;
 use crate::kernel_fault::KernelFault;
 use crate::load::load_file;
-use st_decimal::{KText, NameList};
+use st_decimal::KText;
+use st_dates::System;
 use st_outside::Files;
 use st_pool::Pool;
-use st_words::{Job, setup_clock, setup_files};
+use st_words::{IdFault, Job, setup_clock};
 use std::alloc::Global;
 
 /// Loads the files of these names one after the other, each under its own name.
-fn load_files<F: Files>(
+///
+/// # Errors
+///
+/// Why the first of them isn't loaded that can't be.
+pub fn load_files<F: Files>(
     alloc: Global,
     pool: &mut Pool,
     names: &[KText],
@@ -29,18 +34,30 @@ fn load_files<F: Files>(
     ensures files { KeepsFiles (F.state files.old) (F.state files.new) }
 {
     for name in names {
-        load_file(alloc, pool, name.as_slice(), files)?;
+        if let Err(fault) = load_file(alloc, pool, name.as_slice(), files) {
+            return Err(fault);
+        }
     }
     Ok(())
 }
 
-/// The job with its clock: the one of the words, or the one that the loaded kernels name.
-fn find_clock(job: Job, pool: &Pool) -> Result<Job, IdFault>
+/// The job with its clock: the one of the words, or the one that the loaded kernels name where a side asks for it.
+///
+/// # Errors
+///
+/// Why they name none.
+pub fn find_clock(mut job: Job, pool: &Pool) -> Result<Job, IdFault>
     ensures { ClockGives (asks_clock job) job pool.now result }
 {
-    let mut job = job;
     if has_clock(&job) && job.clock.is_none() {
         job.clock = Some(setup_clock(pool)?);
     }
     Ok(job)
+}
+
+/// Whether a side of the job is a clock.
+fn has_clock(job: &Job) -> bool
+    ensures { result ≡ sides.has_clock job.now }
+{
+    job.from == System::Sclk || job.to == System::Sclk
 }

@@ -4,8 +4,9 @@ ghost use Rattle.std.specs.Prelude.{◌≡◌};
 ghost use Rattle.st_batch.specs.LinesSteps as lines;
 ghost use Rattle.st_batch.specs.Texts.{code_of};
 
-use crate::fault::{LineFault, WordFault};
+use crate::fault::LineFault;
 use st_outside::SinkFault;
+use st_words::WordFault;
 
 /// How a run ended. Its number is the program's exit status.
 #[derive(Clone, Copy, Debug, PartialEq, Eq)]

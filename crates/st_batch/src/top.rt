@@ -7,18 +7,19 @@ ghost use Rattle.st_batch.specs.Limits.{most_input_bytes};
 ghost use Rattle.st_batch.specs.Outcome.{IsAnswered, Outcome, ReadsNothing, Took, around};
 ghost use Rattle.st_batch.specs.OutputSteps.{Delivers, IsCut};
 ghost use Rattle.st_batch.specs.Texts as texts;
-ghost use Rattle.st_words.specs.Reading.{WordsGive};
+ghost use Rattle.st_words.specs.Job.{IsGoodJob};
+ghost use Rattle.st_batch.specs.Words.{WordsAsk, is_sample};
 ghost use Rattle.st_batch.specs.declared.status.Status.TheVariants.{BadSetup, BadWords};
 
 use crate::answer::{put_refused, put_words_refused};
-use crate::fault::{LineFault, WordFault};
+use crate::fault::LineFault;
 use crate::input::answer_lines;
-use st_words::Job;
 use crate::session::Session;
 use crate::status::{Status, stopped_by};
-use crate::words::read_words;
+use crate::words::read_job;
 use crate::write::write_all;
 use st_outside::{Files, Sink, Source};
+use st_words::{Job, WordFault};
 use std::alloc::Global;
 
 /// Does all that the program does: reads the words, loads the setup, answers the lines and writes the answers.
@@ -48,7 +49,7 @@ pub fn run<F: Files, I: Source, O: Sink>(
 
     ensures files { KeepsFiles (F.state files.old) (F.state files.new) }
 {
-    match read_words(alloc, words) {
+    match read_job(alloc, words) {
         Ok(job) => run_job(alloc, job, files, input, out),
         Err(WordFault::OutOfMemory) => Status::OutOfMemory,
         Err(fault) => refuse_words(alloc, fault, out),
@@ -63,13 +64,15 @@ fn run_job<F: Files, I: Source, O: Sink>(
     input: &mut I,
     out: &mut O,
 ) -> Status
-    ensures told { (words : List (List ℕ)) → WordsGive words (Ok job) → Took (O.bytes out.old) (O.bytes out.new) (Outcome
+    requires good { IsGoodJob job }
+    requires built { is_sample job.work ≡ false }
+    ensures told { (words : List (List ℕ)) → WordsAsk words (Ok job) → Took (O.bytes out.old) (O.bytes out.new) (Outcome
         (around (F.state files.old) (F.state files.new) (I.state input.old) (I.state input.new)) words result) }
     ensures write_fault { result ≡ Status.WriteFault → Rose (O.faults out.old) (O.faults out.new) }
     ensures read_fault { result ≡ Status.ReadFault → Rose (I.state input.old).faults (I.state input.new).faults }
     ensures too_long { result ≡ Status.InputTooLong → RoseBeyond most_input_bytes (I.state input.old).taken (I.state input.new).taken }
     ensures short { IsAnswered result → (I.state input.new).taken ≤ (I.state input.old).taken + most_input_bytes }
-    ensures unread { (words : List (List ℕ)) → WordsGive words (Ok job) → ReadsNothing words result → I.state input.new ≡ I.state input.old }
+    ensures unread { (words : List (List ℕ)) → WordsAsk words (Ok job) → ReadsNothing words result → I.state input.new ≡ I.state input.old }
     ensures files { KeepsFiles (F.state files.old) (F.state files.new) }
 {
     match Session::open(alloc, job, files) {
@@ -88,7 +91,7 @@ fn refuse_words<O: Sink>(alloc: Global, fault: WordFault, out: &mut O) -> Status
     ensures write_fault { result ≡ Status.WriteFault → Rose (O.faults out.old) (O.faults out.new) }
 {
     let mut line = Vec::new(alloc);
-    match put_words_refused(&mut line, fault) {
+    match put_words_refused(&mut line, &fault) {
         Ok(()) => deliver(out, line.as_slice(), Status::BadWords(fault)),
         Err(_) => Status::OutOfMemory,
     }

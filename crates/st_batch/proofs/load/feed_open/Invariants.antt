@@ -8,6 +8,7 @@ invariant-loop-read g l = record {
   opened : (g.F.Files.state l.files).opened ≡ true;
   map : (g.F.Files.state l.files).map ≡ (g.F.Files.state l.fn.files).map;
   misses : (g.F.Files.state l.files).counts.misses ≡ (g.F.Files.state l.fn.files).counts.misses;
+  clean : (g.F.Files.state l.files).counts.faults ≡ (g.F.Files.state l.fn.files).counts.faults;
   later : AreLater (g.F.Files.state l.fn.files).counts (g.F.Files.state l.files).counts;
   taken : RoseBy l.read (g.F.Files.state l.fn.files).counts.taken (g.F.Files.state l.files).counts.taken;
   fed : FedPart (g.F.Files.state l.fn.files).left (g.F.Files.state l.files).left l.reader l.read;

@@ -4,7 +4,12 @@ use Rattle.st_batch.specs.declared.status.Status.TheVariants.{BadSetup, ReadFaul
 use Rattle.st_batch.specs.Texts.{setup_line}
 use Rattle.st_batch.specs.Outcome.{around}
 use Rattle.st_batch.proofs.RunLaws.{lines-outcome, no-input, nothing-done, not-answered, not-lines, setup-outcome}
+use Rattle.st_batch.proofs.SetupSteps.{setup-built, setup-work}
 use Rattle.st_batch.proofs.top.run_job.Goals as goal
+
+pub answer_lines-requires : goal.answer_lines-requires
+answer_lines-requires g c =
+    setup-built (record { files = (g.F.Files.state c.args.files.now).map; job = c.args.job }) c.in-Ok.session c.in-Ok.ensures.ok c.requires.built
 
 pub returns-in-Ok : goal.returns-in-Ok
 returns-in-Ok g c =
@@ -18,12 +23,12 @@ returns-in-Ok g c =
     let status = c.answer_lines.result in
     let ended = c.answer_lines.ensures.told before c.in-Ok.ensures.files in
     record {
-      told = λ words asked. lines-outcome before now i j taken after words c.args.job session status c.in-Ok.ensures.job asked c.in-Ok.ensures.ok ended;
+      told = λ words asked. lines-outcome before now i j taken after words c.args.job session status asked c.in-Ok.ensures.ok ended;
       write_fault = c.answer_lines.ensures.write_fault;
       read_fault = c.answer_lines.ensures.read_fault;
       too_long = c.answer_lines.ensures.too_long;
       short = c.answer_lines.ensures.short;
-      unread = λ words asked none. c.answer_lines.ensures.unread (no-input before now i j taken after words c.args.job session status c.in-Ok.ensures.job asked ended none);
+      unread = λ words asked none. c.answer_lines.ensures.unread (no-input before now i j taken after words c.args.job session status (setup-work (record { files = before.map; job = c.args.job }) session c.in-Ok.ensures.ok) asked ended none);
       files = KeepsFiles-trans _ _ _ c.in-Ok.ensures.files c.answer_lines.ensures.files;
     }
 

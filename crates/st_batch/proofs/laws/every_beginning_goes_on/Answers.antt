@@ -1,5 +1,0 @@
-use Rattle.st_batch.proofs.GoesOn.{goes-on}
-use Rattle.st_batch.proofs.laws.every_beginning_goes_on.Goals as goal
-
-pub returns : goal.returns
-returns c s loaded after lines more answers h = goes-on s loaded after lines more answers h

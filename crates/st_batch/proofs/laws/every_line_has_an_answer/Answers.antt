@@ -1,5 +1,0 @@
-use Rattle.st_batch.proofs.LineLaws.{some-answer}
-use Rattle.st_batch.proofs.laws.every_line_has_an_answer.Goals as goal
-
-pub returns : goal.returns
-returns c s loaded line = some-answer s loaded line
