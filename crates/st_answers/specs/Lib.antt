@@ -2,6 +2,6 @@ pub mod Answer
 pub mod Asked
 pub mod AskedSteps
 pub mod FaultSteps
-
+pub mod Laws
 pub mod Ready
 pub mod Sides
