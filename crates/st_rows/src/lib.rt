@@ -6,6 +6,8 @@
 #[cfg(test)]
 mod batches;
 #[cfg(test)]
+mod clocks;
+#[cfg(test)]
 mod conversions;
 #[cfg(test)]
 mod files;
@@ -15,3 +17,5 @@ mod refusals;
 mod rows;
 #[cfg(test)]
 mod sessions;
+#[cfg(test)]
+mod systems;

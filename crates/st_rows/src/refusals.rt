@@ -1,55 +1,79 @@
 //! Refused words, setups and times, and faults of the outside.
 
+use crate::clocks::put_clocks;
 use crate::rows::{Outside, SAFE, SAFE_AND_SHORT, SHORT, files, run_row, to_tai, words};
-use st_batch::{LineFault, Status, WordFault};
+use st_batch::{LineFault, Status};
 use st_outside::FileMap;
+use st_ticks::Var;
 use std::test::Fail;
 
-/// Times that are refused.
-const NO_TIMES: [&str; 12] = [
-    "",
-    "2000-01-01",
-    "2000-01-01T12:00",
-    "2000-1-1T12:00:00",
-    "2000-01-01 12:00:00",
-    "2000-01-01T12:00:00.",
-    "2000-01-01T12:00:00.1234567890123",
-    "2000-01-01T24:00:00",
-    "2015-12-31T23:59:60",
-    "1900-02-29T00:00:00",
-    "1899-12-31T23:59:59",
-    "2100-01-01T00:00:01",
+/// A time, and the refusal.
+const NO_TIMES: [(&str, &str); 8] = [
+    ("", "refused BAD_TIME\n"),
+    ("2000-01-01T12:00:00.", "refused BAD_TIME\n"),
+    ("2000-01-01T12:00:00.1234567890123", "refused BAD_TIME\n"),
+    ("2000-01-01T24:00:00", "refused BAD_TIME\n"),
+    ("2015-12-31T23:59:60", "refused NO_SUCH_SECOND\n"),
+    ("1900-02-29T00:00:00", "refused NO_SUCH_DAY\n"),
+    ("1899-12-31T23:59:59", "refused OUT_OF_RANGE\n"),
+    ("2100-01-01T00:00:01", "refused OUT_OF_RANGE\n"),
 ];
 
 #[test]
 fn refused_times(rt: HostRuntime) -> Result<(), Fail> {
     let alloc = rt.alloc();
-    for time in NO_TIMES {
+    for (time, wanted) in NO_TIMES {
         let words = to_tai(alloc, time)?;
         let (status, output) = run_row(alloc, words.as_slice(), files(alloc)?, b"", SHORT)?;
         assert_eq!(rt; status, Status::SomeRefused, "{time}");
-        assert_eq!(rt;
-            output.as_slice(),
-            b"refused BAD_TIME\n".as_slice(),
-            "{time}"
-        );
+        assert_eq!(rt; output.as_slice(), wanted.as_bytes(), "{time}");
     }
     Ok(())
 }
 
-/// Setup files that are kernels and give no table of leap seconds.
-const NO_TABLES: [&str; 11] = [
-    "",
-    "\\begintext\nDELTET/DELTA_AT = ( 10, @1972-JAN-1 )\n",
-    "\\begindata\ndeltet/delta_at = ( 10, @1972-JAN-1 )\n",
-    "\\begindata\nDELTET/DELTA_AT = ( 10, @1972-JAN-1, 11 )\n",
-    "\\begindata\nDELTET/DELTA_AT = ( '10', '1972-JAN-1' )\n",
-    "\\begindata\nDELTET/DELTA_AT = ( 10, @1972-JAN-1 )\nDELTET/DELTA_AT = 10\n",
-    "\\begindata\nDELTET/DELTA_AT = ( 10, @1972-JAN-1 12, @1972-JUL-1 )\n",
-    "\\begindata\nDELTET/DELTA_AT = ( 10, @1972-JUL-1 11, @1972-JAN-1 )\n",
-    "\\begindata\nDELTET/DELTA_AT = ( 10, @1972-JAN-1T6:00 )\n",
-    "\\begindata\nDELTET/DELTA_AT = ( 1001, @1972-JAN-1 )\n",
-    "\\begindata\nDELTET/DELTA_AT = ( 10.5, @1972-JAN-1 )\n",
+/// Setup files that are kernels and give no table of leap seconds, and the refusal of a time.
+const NO_TABLES: [(&str, &str); 11] = [
+    ("", "refused NO_VARIABLE DELTET/DELTA_AT\n"),
+    (
+        "\\begintext\nDELTET/DELTA_AT = ( 10, @1972-JAN-1 )\n",
+        "refused NO_VARIABLE DELTET/DELTA_AT\n",
+    ),
+    (
+        "\\begindata\ndeltet/delta_at = ( 10, @1972-JAN-1 )\n",
+        "refused NO_VARIABLE DELTET/DELTA_AT\n",
+    ),
+    (
+        "\\begindata\nDELTET/DELTA_AT = ( '10', '1972-JAN-1' )\n",
+        "refused WRONG_KIND DELTET/DELTA_AT\n",
+    ),
+    (
+        "\\begindata\nDELTET/DELTA_AT = ( 10, @1972-JAN-1, 11 )\n",
+        "refused BAD_LEAPS ODD\n",
+    ),
+    (
+        "\\begindata\nDELTET/DELTA_AT = ( 10, @1972-JAN-1 )\nDELTET/DELTA_AT = 10\n",
+        "refused BAD_LEAPS ODD\n",
+    ),
+    (
+        "\\begindata\nDELTET/DELTA_AT = ( 10, @1972-JAN-1 12, @1972-JUL-1 )\n",
+        "refused BAD_LEAPS BAD_STEP 2\n",
+    ),
+    (
+        "\\begindata\nDELTET/DELTA_AT = ( 10, @1972-JUL-1 11, @1972-JAN-1 )\n",
+        "refused BAD_LEAPS NOT_RISING 2\n",
+    ),
+    (
+        "\\begindata\nDELTET/DELTA_AT = ( 10, @1972-JAN-1T6:00 )\n",
+        "refused BAD_LEAPS NOT_MIDNIGHT 1\n",
+    ),
+    (
+        "\\begindata\nDELTET/DELTA_AT = ( 1001, @1972-JAN-1 )\n",
+        "refused BAD_LEAPS NOT_WHOLE 1\n",
+    ),
+    (
+        "\\begindata\nDELTET/DELTA_AT = ( 10.5, @1972-JAN-1 )\n",
+        "refused BAD_LEAPS NOT_WHOLE 1\n",
+    ),
 ];
 
 /// How a conversion of noon on 2000-01-01 ends with a setup file of these bytes, and what it writes.
@@ -63,15 +87,11 @@ fn with_setup(rt: &HostRuntime, setup: &[u8], outside: Outside) -> Result<(Statu
 
 #[test]
 fn setups_without_a_table(rt: HostRuntime) -> Result<(), Fail> {
-    for setup in NO_TABLES {
+    for (setup, wanted) in NO_TABLES {
         for outside in SAFE_AND_SHORT {
             let (status, output) = with_setup(&rt, setup.as_bytes(), outside)?;
             assert_eq!(rt; status, Status::SomeRefused, "{setup}");
-            assert_eq!(rt;
-                output.as_slice(),
-                b"refused NOT_BUILT\n".as_slice(),
-                "{setup}"
-            );
+            assert_eq!(rt; output.as_slice(), wanted.as_bytes(), "{setup}");
         }
     }
     Ok(())
@@ -154,22 +174,113 @@ fn setups_with_a_table(rt: HostRuntime) -> Result<(), Fail> {
     Ok(())
 }
 
+/// Words that are refused, and the whole output.
+const NO_WORDS: [(&[&str], &str); 9] = [
+    (&[], "bad words MISSING -setup\n"),
+    (
+        &["-setup", "naif.tls", "-from", "UTC", "-to", "TAI", "-time"],
+        "bad words NO_VALUE 7\n",
+    ),
+    (
+        &["-setup", "", "-from", "UTC", "-to", "TAI", "-time", "x"],
+        "bad words BAD_VALUE 2\n",
+    ),
+    (
+        &[
+            "-setup", "naif.tls", "-from", "TAI", "-to", "TAI", "-time", "5", "-time", "6",
+        ],
+        "bad words TWICE 9\n",
+    ),
+    (
+        &[
+            "-setup", "naif.tls", "-from", "UTC", "-to", "UTC", "-format", "JULIAND", "-batch",
+        ],
+        "bad words PICTURE COUNT_IN_UTC\n",
+    ),
+    (
+        &[
+            "-setup",
+            "naif.tls",
+            "-from",
+            "TAI",
+            "-to",
+            "TAI",
+            "-format",
+            "MON YYYY::RND",
+            "-time",
+            "0",
+        ],
+        "bad words PICTURE NO_UNIT\n",
+    ),
+    (
+        &[
+            "-setup", "naif.tls", "-from", "UTC", "-to", "ET", "-totype", "SCLK", "-batch",
+        ],
+        "bad words BAD_PAIR -totype\n",
+    ),
+    (
+        &[
+            "-setup",
+            "mission.setup",
+            "-from",
+            "SCLK",
+            "-to",
+            "ET",
+            "-format",
+            "SP2000X",
+            "-back",
+            "-time",
+            "1/0",
+        ],
+        "bad words CONFLICT -back -format\n",
+    ),
+    // The generated lines are not built yet.
+    (
+        &[
+            "-setup", "naif.tls", "-from", "TAI", "-to", "TT", "-sample", "1", "0",
+        ],
+        "bad words UNKNOWN 7\n",
+    ),
+];
+
 #[test]
 fn refused_words(rt: HostRuntime) -> Result<(), Fail> {
     let alloc = rt.alloc();
-    let shapes: [&[&str]; 4] = [
-        &[],
-        &["-setup", "naif.tls", "-from", "UTC", "-to", "TAI", "-time"],
-        &[
-            "-setup", "naif.tls", "-from", "utc", "-to", "TAI", "-time", "x",
-        ],
-        &["-setup", "", "-from", "UTC", "-to", "TAI", "-time", "x"],
-    ];
-    for shape in shapes {
-        let words = words(alloc, shape)?;
+    for (texts, wanted) in NO_WORDS {
+        let words = words(alloc, texts)?;
         let (status, output) = run_row(alloc, words.as_slice(), files(alloc)?, b"", SAFE)?;
-        assert_eq!(rt; status, Status::BadWords(WordFault::NotBuilt));
-        assert_eq!(rt; output.as_slice(), b"bad words NOT_BUILT\n".as_slice());
+        assert_eq!(rt; status.code(), 2, "{wanted}");
+        assert_eq!(rt; output.as_slice(), wanted.as_bytes(), "{wanted}");
+    }
+    Ok(())
+}
+
+#[test]
+fn setups_without_a_clock(rt: HostRuntime) -> Result<(), Fail> {
+    let alloc = rt.alloc();
+    let shape = [
+        "-setup",
+        "noid.setup",
+        "-from",
+        "SCLK",
+        "-to",
+        "ET",
+        "-time",
+        "1/0",
+    ];
+    let words = words(alloc, shape.as_slice())?;
+    for outside in SAFE_AND_SHORT {
+        let mut map = files(alloc)?;
+        put_clocks(alloc, &mut map)?;
+        let (status, output) = run_row(alloc, words.as_slice(), map, b"", outside)?;
+        assert_eq!(rt;
+            status,
+            Status::BadSetup(LineFault::NoVariable(Var::SpacecraftId))
+        );
+        assert_eq!(rt;
+            output.as_slice(),
+            b"bad setup NO_VARIABLE SPACECRAFT_ID\n".as_slice()
+        );
     }
     Ok(())
 }

@@ -1,27 +1,35 @@
 //! A session by its own calls: its kernels, its answers, and the texts of refusals.
 
-use crate::rows::folder;
-use st_batch::{Answer, Job, LineFault, Session, Work, put_refusal};
-use st_decimal::{Dec, KText};
+use crate::rows::{folder, words};
+use st_batch::{Answer, LineFault, Session, put_refusal};
+use st_decimal::Dec;
 use st_kernel_text::{TextCause, Value};
 use st_outside::SafeFiles;
 use st_pool::Kind;
+use st_ticks::Var;
+use st_words::read_words;
 use std::alloc::Global;
 use std::test::Fail;
 
-/// The job of a batch with this setup file.
-fn job(alloc: Global, setup: &[u8]) -> Result<Job, Fail> {
-    Ok(Job {
-        setup: KText::from_slice(alloc, setup)?,
-        work: Work::Batch,
-    })
+/// The session of a batch from UTC to TAI with this setup file.
+fn open(
+    alloc: Global,
+    setup: &str,
+    kernels: &mut SafeFiles,
+) -> Result<Result<Session, LineFault>, Fail> {
+    let shape = ["-setup", setup, "-from", "UTC", "-to", "TAI", "-batch"];
+    let words = words(alloc, shape.as_slice())?;
+    match read_words(alloc, words.as_slice()) {
+        Ok(job) => Ok(Session::open(alloc, job, kernels)),
+        Err(_) => Ok(Err(LineFault::BadCommand)),
+    }
 }
 
 #[test]
 fn opens_a_setup(rt: HostRuntime) -> Result<(), Fail> {
     let alloc = rt.alloc();
     let mut kernels = SafeFiles::new(folder(alloc)?);
-    let Ok(session) = Session::open(alloc, job(alloc, b"values.ker")?, &mut kernels) else {
+    let Ok(session) = open(alloc, "values.ker", &mut kernels)? else {
         assert!(rt; false);
         return Ok(());
     };
@@ -47,8 +55,8 @@ fn opens_a_setup(rt: HostRuntime) -> Result<(), Fail> {
 fn opens_a_setup_without_an_assignment(rt: HostRuntime) -> Result<(), Fail> {
     let alloc = rt.alloc();
     let mut kernels = SafeFiles::new(folder(alloc)?);
-    for setup in [b"empty.ker".as_slice(), b"plain.ker"] {
-        let Ok(session) = Session::open(alloc, job(alloc, setup)?, &mut kernels) else {
+    for setup in ["empty.ker", "plain.ker"] {
+        let Ok(session) = open(alloc, setup, &mut kernels)? else {
             assert!(rt; false);
             return Ok(());
         };
@@ -63,9 +71,9 @@ fn refuses_a_setup(rt: HostRuntime) -> Result<(), Fail> {
     let alloc = rt.alloc();
     let mut kernels = SafeFiles::new(folder(alloc)?);
     let refused = [
-        (b"absent".as_slice(), LineFault::NoFile),
+        ("absent", LineFault::NoFile),
         (
-            b"cut.ker",
+            "cut.ker",
             LineFault::KernelText {
                 line: 2,
                 cause: TextCause::Unclosed,
@@ -73,7 +81,7 @@ fn refuses_a_setup(rt: HostRuntime) -> Result<(), Fail> {
         ),
     ];
     for (setup, wanted) in refused {
-        match Session::open(alloc, job(alloc, setup)?, &mut kernels) {
+        match open(alloc, setup, &mut kernels)? {
             Ok(_) => assert!(rt; false),
             Err(fault) => assert_eq!(rt; fault, wanted),
         }
@@ -85,7 +93,7 @@ fn refuses_a_setup(rt: HostRuntime) -> Result<(), Fail> {
 fn answers_lines(rt: HostRuntime) -> Result<(), Fail> {
     let alloc = rt.alloc();
     let mut kernels = SafeFiles::new(folder(alloc)?);
-    let Ok(mut session) = Session::open(alloc, job(alloc, b"naif.tls")?, &mut kernels) else {
+    let Ok(mut session) = open(alloc, "naif.tls", &mut kernels)? else {
         assert!(rt; false);
         return Ok(());
     };
@@ -108,7 +116,7 @@ fn answers_lines(rt: HostRuntime) -> Result<(), Fail> {
     }
     match session.answer_line(b"2017-06-01T00:00:00", &mut kernels)? {
         Answer::Text(_) => assert!(rt; false),
-        Answer::Refused(fault) => assert_eq!(rt; fault, LineFault::NotBuilt),
+        Answer::Refused(fault) => assert_eq!(rt; fault, LineFault::NoVariable(Var::DeltaAt)),
     }
     Ok(())
 }
