@@ -1,5 +1,5 @@
 -- Where its tables are given or refused every text has an answer.
-use Rattle.std.proofs.Common.{◌≡◌, ◌≢◌, ℕ, ℤ, Bool, true, false, ◌&&◌, ◌⊎◌, inl, inr, Option, Some, None, Result, Ok, Err, List, refl, sym, ap, ◌∙◌, subst}
+use Rattle.std.proofs.Common.{◌≡◌, ◌≢◌, ℕ, ℤ, Bool, true, false, ◌&&◌, inl, inr, Option, Some, None, Result, Ok, Err, List, refl, sym, ap, ◌∙◌, subst}
 use Rattle.std.proofs.lemmas.Bool.{false≢true}
 use Rattle.st_clock.specs.Clock.{Clock as TheClock, IsClock}
 use Rattle.st_clock.specs.Time.{value_of}
@@ -8,7 +8,7 @@ use Rattle.st_clock.specs.declared.ticks.Ticks.TheVariants.{Before, At, After}
 use Rattle.st_dates.specs.declared.system.System.{System}
 use Rattle.st_dates.specs.declared.system.System.TheVariants.{Utc, Tai, Tt, Tdb, Sclk}
 use Rattle.st_fraction.specs.Fraction.{Fraction, units}
-use Rattle.st_routes.specs.Outcome.{MayBeUndecided, Outcome, Prints, RouteGives, Spells, Target, at_tick, by_clock, by_picture, in_cell}
+use Rattle.st_routes.specs.Outcome.{Outcome, Prints, RouteGives, Spells, Target, at_tick, by_clock, by_picture, in_cell}
 use Rattle.st_routes.specs.Source.{InstantGives, TickGives, TimeGives}
 use Rattle.st_routes.specs.declared.fault.TimeFault.{TimeFault}
 use Rattle.st_routes.specs.declared.fault.TimeFault.TheVariants as faults
@@ -26,8 +26,8 @@ use Rattle.st_words.specs.declared.job.FromKind.TheVariants as from
 use Rattle.st_words.specs.declared.job.Job.{Job}
 use Rattle.st_words.specs.declared.job.ToKind.{ToKind}
 use Rattle.st_words.specs.declared.job.ToKind.TheVariants as to
-use Rattle.st_answers.specs.Answer.{AnswerBy, BackGives, ClockTimeGives, ConvertGives, ForwardGives, GivesBy, IsRouteBy, IsScaleOf, IsTargetOf, IsTickSpelled, SourceGives, SpellGives, TickTimeGives, back_job, source_form, target_form, there_and_back}
-use Rattle.st_answers.specs.Asked.{AreTables, Tables}
+use Rattle.st_answers.specs.Answer.{AnswerBy, BackGives, ClockTimeGives, ConvertGives, ForwardGives, GivesBy, IsRouteBy, IsScaleOf, IsTargetOf, SourceGives, SpellGives, TickTimeGives, back_job, source_form, target_form, there_and_back}
+use Rattle.st_answers.specs.Asked.{Tables}
 use Rattle.st_answers.specs.Laws.{EachTextHasAnswer, HasTables}
 use Rattle.st_answers.specs.Ready.{IsReady}
 use Rattle.st_answers.specs.Sides.{is_clock, scale_of}

@@ -1,5 +1,5 @@
 -- What the crates below say of values, cells, ticks and clocks, brought together; the clocks that kernels give are clocks.
-use Rattle.std.proofs.Common.{◌≡◌, ◌⊎◌, inl, inr, ℕ, ◌≤◌, ◌^◌, ℤ, pos, neg_ℤ, ◌≤ℤ◌, true, false, Option, Some, None, Result, Ok, Err, List, [], ◌∷◌, ◌++◌, sum_by, Bool, refl, sym, ◌∙◌, subst, arith}
+use Rattle.std.proofs.Common.{◌≡◌, inl, inr, ℕ, ◌≤◌, ◌^◌, true, false, Option, Some, None, Ok, List, [], ◌∷◌, ◌++◌, sum_by, Bool, sym, ◌∙◌, subst, arith}
 use Rattle.std.proofs.lemmas.Bool.{false≢true}
 use Rattle.std.proofs.lemmas.Int.{ints}
 use Rattle.st_clock.specs.Clock.{Clock as TheClock, IsClock}
@@ -16,7 +16,6 @@ use Rattle.st_routes.specs.declared.route.Route.TheVariants.{Same, Scales}
 use Rattle.st_scales.proofs.Routes.{route_agrees, route_exact, route_known, route_near}
 use Rattle.st_tables.specs.Tables.{ClockGives}
 use Rattle.st_tables.specs.Variables.{Loaded}
-use Rattle.st_tables.specs.declared.fault.TableFault.{TableFault}
 use Rattle.st_ticks.specs.Face.{Face, IsDelimiter, IsFace, ticks_in}
 use Rattle.st_ticks.specs.Rules.{AreKept}
 use Rattle.st_ticks.specs.Variables.{Keeps, MakesFace, Numbers, first_rules, rule}

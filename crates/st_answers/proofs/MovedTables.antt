@@ -1,5 +1,5 @@
 -- What is answered by tables is answered by tables of the same pairs, constants and clock.
-use Rattle.std.proofs.Common.{◌≡◌, ℕ, Bool, true, false, ◌⊎◌, inl, inr, Option, Some, None, option_map, Result, Ok, Err, List, refl, subst}
+use Rattle.std.proofs.Common.{◌≡◌, ℕ, Bool, true, false, inl, inr, Option, Some, None, option_map, Result, Ok, Err, List, refl, subst}
 use Rattle.st_clock.specs.Clock.{Clock}
 use Rattle.st_dates.specs.declared.system.System.{System}
 use Rattle.st_dates.specs.declared.system.System.TheVariants.{Utc, Tai, Tt, Tdb, Sclk}

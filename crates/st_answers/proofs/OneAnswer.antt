@@ -1,5 +1,5 @@
 -- Where no sine stands on the way a text has one answer.
-use Rattle.std.proofs.Common.{◌≡◌, ◌≢◌, ℕ, Bool, true, false, ◌&&◌, ◌⊎◌, inl, inr, Result, Ok, Err, List, refl, sym, ap, ◌∙◌, subst}
+use Rattle.std.proofs.Common.{◌≡◌, ◌≢◌, ℕ, Bool, true, false, ◌&&◌, inl, inr, Result, Ok, Err, List, refl, sym, ap, ◌∙◌, subst}
 use Rattle.st_routes.specs.declared.fault.TimeFault.{TimeFault}
 use Rattle.st_routes.specs.declared.fault.TimeFault.TheVariants.{OutOfMemory as NoMemory}
 use Rattle.st_tables.specs.Variables.{Loaded}

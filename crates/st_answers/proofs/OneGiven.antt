@@ -1,8 +1,7 @@
 -- By one job's tables a text has one answer, where no sine stands on the way.
-use Rattle.std.proofs.Common.{◌≡◌, ◌≢◌, ℕ, ℤ, Bool, true, false, ◌⊎◌, inl, inr, Option, Some, None, Result, Ok, Err, List, refl, sym, ap, ◌∙◌, subst}
+use Rattle.std.proofs.Common.{◌≡◌, ◌≢◌, ℕ, Bool, true, false, inl, inr, Option, Some, None, Result, Ok, Err, List, sym, ap, ◌∙◌, subst}
 use Rattle.st_clock.specs.Clock.{Clock as TheClock, IsClock}
 use Rattle.st_clock.specs.Time.{value_of}
-use Rattle.st_clock.specs.declared.point.Point.{Point}
 use Rattle.st_dates.specs.declared.system.System.{System}
 use Rattle.st_dates.specs.declared.system.System.TheVariants.{Utc, Tai, Tt, Tdb, Sclk}
 use Rattle.st_forms.proofs.AnswerLaws.{each_has_answer as each-is-read, one_answer as one-reading}
@@ -12,11 +11,11 @@ use Rattle.st_picture.specs.Picture.{Picture}
 use Rattle.st_routes.specs.Laws.{EachTextGivesInstant, EachTextGivesTick, ExactIsOne, InstantIsSource, IsTarget, OneInstant, OneTick}
 use Rattle.st_routes.specs.Outcome.{RouteGives, Target, by_clock, by_picture}
 use Rattle.st_routes.specs.Route.{HasNoSineOnIt, IsNearby}
-use Rattle.st_routes.specs.Source.{TickGives, TimeGives}
+use Rattle.st_routes.specs.Source.{TickGives}
 use Rattle.st_routes.specs.declared.fault.TimeFault.{TimeFault}
 use Rattle.st_routes.specs.declared.fault.TimeFault.TheVariants.{OutOfMemory}
 use Rattle.st_routes.specs.declared.route.Route.{Route}
-use Rattle.st_routes.specs.declared.route.Route.TheVariants.{Same, Scales}
+use Rattle.st_routes.specs.declared.route.Route.TheVariants.{Scales}
 use Rattle.st_routes.specs.declared.ticks.TickForm.{TickForm}
 use Rattle.st_routes.specs.declared.ticks.TickForm.TheVariants as tick
 use Rattle.st_routes.proofs.Instants.{each_gives, instant_is_source, one_instant}

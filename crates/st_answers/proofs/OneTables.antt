@@ -1,6 +1,6 @@
 -- The tables of a job are given or refused, never both; there is one refusal, and the tables are one, the table of leap seconds
 -- by its pairs.
-use Rattle.std.proofs.Common.{◌≡◌, ◌≢◌, ℕ, ◌⊎◌, inl, inr, Bool, true, false, Option, Some, None, option_map, Result, Ok, Err, List, refl, sym, ap, ◌∙◌, subst}
+use Rattle.std.proofs.Common.{◌≡◌, ◌≢◌, ℕ, inl, inr, Bool, true, false, Option, Some, None, option_map, Result, Ok, Err, List, refl, sym, ap, ◌∙◌, subst}
 use Rattle.st_clock.specs.Clock.{Clock as TheClock}
 use Rattle.st_leaps.specs.OfTable.{pairs_of}
 use Rattle.st_leaps.specs.declared.pair.LeapPair.{LeapPair}

@@ -1,5 +1,5 @@
 -- Each tick of a clock has one time, or one reason why it has none; each is spelled in one way.
-use Rattle.std.proofs.Common.{◌≡◌, ◌⊎◌, inl, inr, ℕ, ◌+◌, ◌-◌, ◌*◌, ◌/◌, ◌%◌, ◌<◌, ◌≤◌, ℤ, pos, ◌+ℤ◌, List, Some, Result, Ok, Err, slice_get, refl, sym, ◌∙◌, arith}
+use Rattle.std.proofs.Common.{◌≡◌, ◌⊎◌, inl, inr, ℕ, ◌+◌, ◌-◌, ◌*◌, ◌/◌, ◌%◌, ◌<◌, ◌≤◌, pos, ◌+ℤ◌, List, Result, Ok, Err, refl, sym, ◌∙◌, arith}
 use Rattle.std.proofs.lemmas.Bool.{cases_lt}
 use Rattle.st_text.specs.Bytes.{decimal_digits}
 use Rattle.st_clock.specs.Clock.{Clock, IsClock, IsLast, IsTimeOf, StartsBy, line_time, tpm}
@@ -13,7 +13,7 @@ use Rattle.st_clock.proofs.Faces.{tpm_some}
 use Rattle.st_clock.proofs.Lasts.{last_found}
 use Rattle.st_clock.proofs.Ranges.{parts_are_time}
 use Rattle.st_dates.specs.Range.{range_end, range_start}
-use Rattle.st_fraction.specs.Fraction.{Fraction, ◌≤ᶠ◌, ◌<ᶠ◌, ◌≈ᶠ◌, units}
+use Rattle.st_fraction.specs.Fraction.{◌≤ᶠ◌, ◌<ᶠ◌, ◌≈ᶠ◌, units}
 use Rattle.st_fraction.proofs.Order.{le_f_cases, not_both_f}
 use Rattle.st_routes.specs.Outcome.{IsTickText}
 use Rattle.st_routes.specs.Source.{TimeGives}
@@ -21,7 +21,7 @@ use Rattle.st_routes.specs.declared.fault.TimeFault.{TimeFault}
 use Rattle.st_routes.specs.declared.fault.TimeFault.TheVariants as faults
 use Rattle.st_routes.specs.declared.ticks.TickForm.{TickForm}
 use Rattle.st_routes.specs.declared.ticks.TickForm.TheVariants as tick
-use Rattle.st_routes.proofs.Faults.{of_time, one_time}
+use Rattle.st_routes.proofs.Faults.{one_time}
 use Rattle.st_routes.proofs.Values.{value_is}
 use Rattle.st_ticks.specs.TickMachine.{canonical}
 use Rattle.st_ticks.proofs.FaceLaws.{canonical_is_one}
