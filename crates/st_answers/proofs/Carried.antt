@@ -1,5 +1,5 @@
 -- Refusals of the calls below, carried as those of an answer.
-use Rattle.std.proofs.Common.{◌≡◌, ◌≢◌, Option, Result, Ok, Err, refl, sym, ap, ◌∙◌, subst}
+use Rattle.std.proofs.Common.{◌≡◌, ◌≢◌, Option, Result, Ok, Err, sym, subst}
 use Rattle.std.proofs.lemmas.Bool.{false≢true}
 use Rattle.std.specs.Result.{IsErr, IsErrAnd}
 use Rattle.st_routes.specs.declared.fault.TimeFault.{TimeFault}

@@ -27,7 +27,7 @@ found true P x e one None h = absurd h
 found true P x e one (Some y) h = ap Some (sym (one y h))
 found false P x e one o h = absurd (false≢true e)
 
-ok-is : {A E : Type 0} (a b : A) → ◌≡◌ {A = Result A E} (Ok a) (Ok b) → a ≡ b
+pub ok-is : {A E : Type 0} (a b : A) → ◌≡◌ {A = Result A E} (Ok a) (Ok b) → a ≡ b
 ok-is a b e = cc
 
 none-found : {T : Type 0} (b : Bool) (P : Result T TableFault → Type 0) → b ≡ false → (o : Option T) → GivesWhere b P (Ok o) → o ≡ None
@@ -41,7 +41,7 @@ refused true P e not (Some y) h = not y h
 refused false P e not o h = false≢true e
 
 -- what agrees with a refusal is no table
-agree-err : {A : Type 0} (f : TableFault) (b : A) → f ≢ OutOfMemory → Agree {A = A} (Err f) (Ok b) → ⊥
+pub agree-err : {A : Type 0} (f : TableFault) (b : A) → f ≢ OutOfMemory → Agree {A = A} (Err f) (Ok b) → ⊥
 agree-err (NoVariable v) b not h = absurd cc
 agree-err (WrongKind v) b not h = absurd cc
 agree-err (Leaps l) b not h = absurd cc
@@ -95,7 +95,7 @@ OfId job loaded r = (n : ℕ) × (job.clock ≡ Some n) × ClockGives n loaded r
 pub some-is : {A : Type 0} (a b : A) → ◌≡◌ {A = Option A} (Some a) (Some b) → a ≡ b
 some-is a b e = cc
 
-by-id : (job : Job) (loaded : Loaded) (n : ℕ) (r : Result TheClock TableFault) → job.clock ≡ Some n → OfId job loaded r → ClockGives n loaded r
+pub by-id : (job : Job) (loaded : Loaded) (n : ℕ) (r : Result TheClock TableFault) → job.clock ≡ Some n → OfId job loaded r → ClockGives n loaded r
 by-id job loaded n r is (m, same, given) =
     let P : ℕ → Type 0 = λ k. ClockGives k loaded r in
     subst P (some-is m n (sym same ∙ is)) given

@@ -1,6 +1,14 @@
+pub mod AnswerLaws
+pub mod Answered
 pub mod Carried
 pub mod Found
+pub mod Known
 pub mod Moved
+pub mod MovedTables
+pub mod OneAnswer
+pub mod OneGiven
+pub mod OneTables
 pub mod Printed
 pub mod Sides
 pub mod Sourced
+pub mod Timed

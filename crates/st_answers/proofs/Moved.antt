@@ -1,5 +1,5 @@
 -- What is answered of a source is that of an equal source, and tables of the same pairs answer alike.
-use Rattle.std.proofs.Common.{◌≡◌, ◌≢◌, ℕ, ℤ, ◌*◌, ◌^◌, ◌<◌, pos, Option, Some, None, option_map, Result, Ok, Err, List, refl, sym, ap, ◌∙◌, subst, arith}
+use Rattle.std.proofs.Common.{◌≡◌, ℕ, ℤ, ◌<◌, Option, Some, None, option_map, Result, Ok, Err, List, refl, ap, subst, arith}
 use Rattle.std.proofs.lemmas.Int.{ints}
 use Rattle.st_clock.specs.Time.{value_of}
 use Rattle.st_clock.specs.declared.point.Point.{Point}
@@ -10,15 +10,14 @@ use Rattle.st_scales.proofs.Routes.{route_rises}
 use Rattle.st_forms.specs.declared.form.Form.{Form}
 use Rattle.st_forms.specs.declared.time.TimeText.{TimeText}
 use Rattle.st_forms.specs.declared.time.TimeText.TheVariants.{Label as OfLabel, Instant, NoSecond}
-use Rattle.st_fraction.specs.Fraction.{Fraction, IsFraction, ◌≤ᶠ◌, ◌≈ᶠ◌, units}
+use Rattle.st_fraction.specs.Fraction.{Fraction, IsFraction, ◌≈ᶠ◌, units}
 use Rattle.st_leaps.specs.Label.{IsLabel, IsLabelOf, in_units}
 use Rattle.st_leaps.specs.OfTable.{pairs_of}
 use Rattle.st_leaps.specs.Table.{count_on}
 use Rattle.st_leaps.specs.declared.pair.LeapPair.{LeapPair}
 use Rattle.st_leaps.specs.declared.table.LeapTable.{LeapTable}
-use Rattle.st_picture.specs.Cell.{IsCell, IsCellOf, days_of, leaps_for}
+use Rattle.st_picture.specs.Cell.{IsCell, days_of, leaps_for}
 use Rattle.st_picture.specs.Picture.{Picture}
-use Rattle.st_picture.specs.declared.cell.Cell.{Cell}
 use Rattle.st_routes.specs.Outcome.{IsOutcome, MayBeUndecided, MayPrint, Outcome, RouteGives, Spells, Target, by_picture, in_cell, at_tick}
 use Rattle.st_routes.specs.Source.{HasNoSecond, InstantGives, IsInstant}
 use Rattle.st_routes.specs.declared.fault.TimeFault.{TimeFault}

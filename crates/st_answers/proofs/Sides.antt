@@ -1,11 +1,9 @@
 -- The sides of a job that is ready.
-use Rattle.std.proofs.Common.{◌≡◌, ◌≢◌, ℕ, Bool, true, false, ◌||◌, ◌&&◌, Option, Some, None, Result, Ok, Err, IsSome, refl, sym, ap, ◌∙◌, subst}
+use Rattle.std.proofs.Common.{◌≡◌, ◌≢◌, ℕ, Bool, true, false, ◌||◌, Option, Some, None, Result, Ok, refl, sym, ap, ◌∙◌, subst}
 use Rattle.std.proofs.lemmas.Bool.{false≢true}
 use Rattle.st_clock.specs.Clock.{Clock}
 use Rattle.st_dates.specs.declared.system.System.{System}
 use Rattle.st_dates.specs.declared.system.System.TheVariants.{Utc, Tai, Tt, Tdb, Sclk}
-use Rattle.st_forms.specs.declared.form.Form.{Form}
-use Rattle.st_forms.specs.declared.form.Form.TheVariants.{Seconds}
 use Rattle.st_picture.specs.Picture.{Picture}
 use Rattle.st_scales.specs.declared.deltet.Deltet.{Deltet}
 use Rattle.st_scales.specs.declared.scale.Scale.{Scale}
@@ -18,7 +16,6 @@ use Rattle.st_words.specs.Kinds.{from_kind, is_type_of}
 use Rattle.st_words.specs.declared.job.FromKind.{FromKind}
 use Rattle.st_words.specs.declared.job.FromKind.TheVariants as from
 use Rattle.st_words.specs.declared.job.Job.{Job}
-use Rattle.st_words.specs.declared.job.ToKind.{ToKind}
 use Rattle.st_words.specs.declared.job.ToKind.TheVariants as to
 use Rattle.st_words.specs.declared.time_type.TimeType.{TimeType}
 use Rattle.st_words.specs.declared.time_type.TimeType.TheVariants.{Scet, Seconds as InSeconds, Sclk as InStrings, Ticks as InTicks}
@@ -26,7 +23,7 @@ use Rattle.st_answers.specs.Answer.{IsRouteBy, IsRouteOf, IsScaleOf, back_job}
 use Rattle.st_answers.specs.Asked.{AreTables, GivesWhere, Tables}
 use Rattle.st_answers.specs.AskedSteps.{ClockScaleIs, scale_with}
 use Rattle.st_answers.specs.Ready.{IsReady}
-use Rattle.st_answers.specs.Sides.{has_clock, is_clock, scale_of}
+use Rattle.st_answers.specs.Sides.{has_clock, is_clock}
 
 -- a clock's times are strings or ticks, and those of no other system are
 abbrev pub is_of_clock : FromKind → Bool

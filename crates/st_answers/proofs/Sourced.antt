@@ -1,5 +1,5 @@
 -- What a text of the source stands for, and the answer one way.
-use Rattle.std.proofs.Common.{◌≡◌, ◌≢◌, ℕ, ◌<◌, ℤ, Bool, true, false, ◌&&◌, Bor, Option, Some, None, option_map, Result, Ok, Err, IfOk, IfErr, List, refl, sym, ap, ◌∙◌, subst}
+use Rattle.std.proofs.Common.{◌≡◌, ◌≢◌, ℕ, ◌<◌, ℤ, Bool, true, ◌&&◌, Bor, Option, option_map, Result, Ok, Err, IfOk, IfErr, List, refl, sym, ap, ◌∙◌, subst}
 use Rattle.std.proofs.lemmas.Bool.{false≢true}
 use Rattle.st_clock.specs.Clock.{Clock as TheClock}
 use Rattle.st_clock.specs.Time.{value_of}
@@ -10,9 +10,7 @@ use Rattle.st_leaps.specs.OfTable.{pairs_of}
 use Rattle.st_leaps.specs.declared.table.LeapTable.{LeapTable}
 use Rattle.st_routes.specs.Source.{InstantGives}
 use Rattle.st_routes.specs.declared.fault.TimeFault.{TimeFault}
-use Rattle.st_routes.specs.declared.fault.TimeFault.TheVariants.{OutOfMemory as NoMemory}
 use Rattle.st_routes.specs.declared.ticks.TickForm.{TickForm}
-use Rattle.st_routes.specs.declared.ticks.TickForm.TheVariants as tick
 use Rattle.st_scales.specs.declared.deltet.Deltet.{Deltet}
 use Rattle.st_tables.specs.Variables.{Loaded}
 use Rattle.st_words.specs.Job.{IsSource}
@@ -39,8 +37,7 @@ pub time-read : (job : Job) (form : Form) (o : Option (Bor LeapTable)) (text : L
     → pairs_in tables ≡ option_map (λ x. pairs_of x.now) o → InstantGives job.from form (option_map (λ x. x.now) o) text (Ok u)
     → SourceIs job text tables (Ok (record { units = u; part = 0; of = 1 }))
 time-read job form o text u tables kind pairs gives =
-    let P : FromKind → Type 0 = λ k. SourceGives k job.from tables text (Ok (units u)) in
-    (
+    let P : FromKind → Type 0 = λ k. SourceGives k job.from tables text (Ok (units u)) in (
       units u,
       subst P (sym kind) (u, same-instant job.from form (option_map (λ x. x.now) o) tables.leaps text (Ok u) (sym (pairs ∙ pairs-shown o)) gives, refl),
       record { positive = units-are u; same = whole-point u; whole = λ not. refl },

@@ -11,7 +11,6 @@ use Rattle.st_fraction.specs.Fraction.{Fraction, units}
 use Rattle.st_scales.specs.declared.deltet.Deltet.{Deltet}
 use Rattle.st_scales.specs.declared.scale.Scale.{Scale}
 use Rattle.st_tables.specs.Variables.{Loaded}
-use Rattle.st_tables.specs.declared.fault.TableFault.{TableFault}
 use Rattle.st_words.specs.declared.job.FromKind.{FromKind}
 use Rattle.st_words.specs.declared.job.FromKind.TheVariants as from
 use Rattle.st_words.specs.declared.job.Job.{Job}
@@ -73,7 +72,7 @@ abbrev pub ConvertGives : Job → Tables → List ℕ → Result (List ℕ) Time
 ConvertGives job tables text result =
     ((fault : TimeFault) × SourceGives job.form job.from tables text (Err fault) × (result ≡ Err fault))
     ⊎ ((r : Fraction) × (route : Route) × (target : Target) × SourceGives job.form job.from tables text (Ok r)
-        × IsRouteOf job tables route × IsTargetOf job.shape tables target × RouteGives route r target result)
+    × IsRouteOf job tables route × IsTargetOf job.shape tables target × RouteGives route r target result)
 
 -- the forms of ticks
 abbrev pub source_form : FromKind → TickForm

@@ -51,7 +51,7 @@ FirstRefusal job loaded fault =
     LeapsOf job loaded (Err fault)
     ⊎ (((leaps : Option LeapTable) × LeapsOf job loaded (Ok leaps) × ConstantsOf job loaded (Err fault))
     ⊎ ((leaps : Option LeapTable) × (constants : Option Deltet) × LeapsOf job loaded (Ok leaps) × ConstantsOf job loaded (Ok constants)
-        × ClockOf job loaded (Err fault)))
+    × ClockOf job loaded (Err fault)))
 
 -- want of memory refuses no line
 abbrev pub TablesRefuse : Job → Loaded → TableFault → Type 0

@@ -1,6 +1,6 @@
 -- What the calls give that come after the tables of a job were found: what is so by all tables that the loaded kernels give.
 -- Want of memory is free.
-use Rattle.std.specs.Prelude.{◌≡◌, ◌≢◌, ℕ, ℤ, Bool, false, Option, Some, None, option_map, Result, Ok, Err, List, ⊤}
+use Rattle.std.specs.Prelude.{◌≡◌, ◌≢◌, ℕ, ℤ, false, Option, Some, option_map, Result, Ok, Err, List, ⊤}
 use Rattle.std.specs.Borrow.{Bor}
 use Rattle.st_clock.specs.Clock.{Clock}
 use Rattle.st_clock.specs.Time.{value_of}

@@ -1,5 +1,5 @@
 -- The two sides of a job, and the tables that they ask for.
-use Rattle.std.specs.Prelude.{Bool, true, false, ◌&&◌, ◌||◌, not}
+use Rattle.std.specs.Prelude.{Bool, true, false, ◌||◌, not}
 use Rattle.st_dates.specs.declared.system.System.{System}
 use Rattle.st_dates.specs.declared.system.System.TheVariants.{Utc, Tai, Tt, Tdb, Sclk}
 use Rattle.st_scales.specs.declared.scale.Scale.{Scale}

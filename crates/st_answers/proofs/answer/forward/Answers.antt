@@ -1,4 +1,4 @@
-use Rattle.std.proofs.Common.{true, false, sym, ◌∙◌}
+use Rattle.std.proofs.Common.{false, sym, ◌∙◌}
 use Rattle.st_answers.proofs.Sourced.{one-way, spelled-one-way}
 use Rattle.st_answers.proofs.answer.forward.Goals as goal
 

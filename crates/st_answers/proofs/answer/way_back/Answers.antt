@@ -1,10 +1,8 @@
-use Rattle.std.proofs.Common.{◌≢◌, ℕ, false, List, Ok, Err, IfOk, IfErr, sym, subst}
+use Rattle.std.proofs.Common.{ℕ, false, List, Ok, IfOk, subst}
 use Rattle.std.proofs.lemmas.Bool.{false≢true}
-use Rattle.st_answers.specs.declared.fault.AnswerFault.TheVariants.{OutOfMemory}
 use Rattle.st_dates.specs.declared.system.System.TheVariants.{Tdb, Sclk}
 use Rattle.st_forms.specs.declared.form.Form.TheVariants.{Seconds}
 use Rattle.st_words.specs.declared.job.FromKind.TheVariants as from
-use Rattle.st_words.specs.declared.job.Job.{Job}
 use Rattle.st_words.specs.declared.job.ToKind.TheVariants as to
 use Rattle.st_words.specs.declared.job.Work.TheVariants.{Batch}
 use Rattle.st_answers.specs.Answer.{ForwardGives}

@@ -1,4 +1,3 @@
-use Rattle.std.proofs.Common.{sym}
 use Rattle.st_answers.proofs.Found.{leaps-found, leaps-refused}
 use Rattle.st_answers.proofs.asked.leaps_of.Goals as goal
 

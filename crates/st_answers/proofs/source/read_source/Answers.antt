@@ -20,11 +20,11 @@ returns-in_ok-units-in-Time-clause-gives c =
     let range = c.in_ok-units-in-Time.ensures.range in
     let fits : FitsSigned w128 u = omega (arith, ints, range.0, range.1) in
     λ tables are.
-        let P : ℤ → Type 0 = λ z. SourceIs c.args.job.now c.args.text.now tables (Ok (record { units = z; part = 0; of = 1 })) in
-        subst P (sym (to_z-of_z fits)) (
-          time-read c.args.job.now c.in-Time.form c.in_ok-leaps-in-Time.leaps c.args.text.now u tables c.in-Time.is
-          (c.in_ok-leaps-in-Time.ensures.finds tables are) c.in_ok-units-in-Time.ensures.gives
-        )
+    let P : ℤ → Type 0 = λ z. SourceIs c.args.job.now c.args.text.now tables (Ok (record { units = z; part = 0; of = 1 })) in
+    subst P (sym (to_z-of_z fits)) (
+    time-read c.args.job.now c.in-Time.form c.in_ok-leaps-in-Time.leaps c.args.text.now u tables c.in-Time.is
+    (c.in_ok-leaps-in-Time.ensures.finds tables are) c.in_ok-units-in-Time.ensures.gives
+    )
 
 pub returns-in-Clock-clause-gives : goal.returns-in-Clock-clause-gives
 returns-in-Clock-clause-gives c =
