@@ -114,8 +114,16 @@ pub opened-files : {A : Type 0} (files map : Option Entries) (job after : Job) (
 opened-files files map job after loaded first name names fault r none is h named clock same given err =
     let s : Setting = record { files = files; job = job } in
     setup-refused s r (line_fault fault) err
-    (λ not. inr (inr (inr (first, names, after, fault, record { loaded = begun files loaded first name job.setup none is h; named = named }, clock,
-    moved map files first names (Err fault) same (given (kernel-memory fault not)), refl))))
+    (λ not. inr (inr (inr (
+      first,
+      names,
+      after,
+      fault,
+      record { loaded = begun files loaded first name job.setup none is h; named = named },
+      clock,
+      moved map files first names (Err fault) same (given (kernel-memory fault not)),
+      refl,
+    ))))
 
 pub opened : (files map : Option Entries) (job after : Job) (loaded first last : Loaded) (name : List ℕ) (names : List (List ℕ)) → loaded ≡ [] → name ≡ job.setup
     → LoadGives files loaded name (Ok first) → SetupFiles first (Ok names) → ClockGives (asks_clock job) job first (Ok after) → map ≡ files

@@ -62,9 +62,15 @@ pub fn run_batch(alloc: Global, lines: &[u8], outside: Outside) -> Result<(Statu
 pub fn words(alloc: Global, texts: &[&str]) -> Result<Vec<String>, Fail> {
     let mut words = Vec::new(alloc);
     for text in texts {
-        words.push(String::from_str(alloc, text)?)?;
+        add_word(alloc, &mut words, text)?;
     }
     Ok(words)
+}
+
+/// Appends a word.
+pub fn add_word(alloc: Global, words: &mut Vec<String>, text: &str) -> Result<(), Fail> {
+    words.push(String::from_str(alloc, text)?)?;
+    Ok(())
 }
 
 /// The words of a conversion from UTC to TAI with the setup `naif.tls`.

@@ -1,7 +1,7 @@
 //! Conversions between all systems: the words behind `-setup`, and the whole output.
 
 use crate::clocks::put_clocks;
-use crate::rows::{SAFE_AND_SHORT, files, run_row, words};
+use crate::rows::{SAFE_AND_SHORT, add_word, files, run_row};
 use st_batch::Status;
 use std::alloc::Global;
 use std::process::Abort;
@@ -443,13 +443,22 @@ const REFUSED: [Row; 13] = [
     ),
 ];
 
+/// The words of a row.
+fn asking(alloc: Global, setup: &[&str], time: &str) -> Result<Vec<String>, Fail> {
+    let mut words = Vec::new(alloc);
+    add_word(alloc, &mut words, "-setup")?;
+    for text in setup {
+        add_word(alloc, &mut words, text)?;
+    }
+    add_word(alloc, &mut words, "-time")?;
+    add_word(alloc, &mut words, time)?;
+    Ok(words)
+}
+
 /// Runs each row, which ends with this status.
 fn run_rows(rt: &impl Abort, alloc: Global, rows: &[Row], wanted: Status) -> Result<(), Fail> {
     for (setup, time, line) in rows {
-        let mut texts = Vec::from_slice(alloc, &["-setup"])?;
-        texts.extend_from_slice(setup)?;
-        texts.extend_from_slice(&["-time", *time])?;
-        let words = words(alloc, texts.as_slice())?;
+        let words = asking(alloc, setup, time)?;
         for outside in SAFE_AND_SHORT {
             let mut map = files(alloc)?;
             put_clocks(alloc, &mut map)?;
