@@ -88,6 +88,15 @@ begun files loaded first name setup none is h =
     let P : Loaded → List ℕ → Type 0 = λ l n. LoadGives files l n (Ok first) in
     subst (λ (n : List ℕ). P [] n) is (subst (λ (l : Loaded). P l name) none h)
 
+pub opened-first : {A : Type 0} (files : Option Entries) (job : Job) (loaded : Loaded) (name : List ℕ) (fault : KernelFault) (r : Result A LineFault) → loaded ≡ [] → name ≡ job.setup
+    → (fault ≢ kernel.OutOfMemory → LoadGives files loaded name (Err fault)) → IsErr r × IsErrAnd r (λ f. f ≡ line_fault fault)
+    → IfErr r (λ f. f ≢ line.OutOfMemory → SetupGives (record { files = files; job = job }) (Err f))
+opened-first files job loaded name fault r none is given err =
+    let s : Setting = record { files = files; job = job } in
+    let P : List ℕ → Type 0 = λ n. LoadGives files [] n (Err fault) in
+    let first : line_fault fault ≢ line.OutOfMemory → LoadGives files [] job.setup (Err fault) = λ not. subst P is (subst (λ (l : Loaded). LoadGives files l name (Err fault)) none (given (kernel-memory fault not))) in
+    setup-refused s r (line_fault fault) err (λ not. inl (fault, first not, refl))
+
 pub opened-names : {A : Type 0} (files : Option Entries) (job : Job) (loaded first : Loaded) (name : List ℕ) (fault : SetupFault) (r : Result A LineFault) → loaded ≡ [] → name ≡ job.setup
     → LoadGives files loaded name (Ok first) → (fault ≢ setup.OutOfMemory → SetupFiles first (Err fault)) → IsErr r × IsErrAnd r (λ f. f ≡ files_fault fault)
     → IfErr r (λ f. f ≢ line.OutOfMemory → SetupGives (record { files = files; job = job }) (Err f))
@@ -114,8 +123,16 @@ pub opened-files : {A : Type 0} (files map : Option Entries) (job after : Job) (
 opened-files files map job after loaded first name names fault r none is h named clock same given err =
     let s : Setting = record { files = files; job = job } in
     setup-refused s r (line_fault fault) err
-    (λ not. inr (inr (inr (first, names, after, fault, record { loaded = begun files loaded first name job.setup none is h; named = named }, clock,
-    moved map files first names (Err fault) same (given (kernel-memory fault not)), refl))))
+    (λ not. inr (inr (inr (
+      first,
+      names,
+      after,
+      fault,
+      record { loaded = begun files loaded first name job.setup none is h; named = named },
+      clock,
+      moved map files first names (Err fault) same (given (kernel-memory fault not)),
+      refl,
+    ))))
 
 pub opened : (files map : Option Entries) (job after : Job) (loaded first last : Loaded) (name : List ℕ) (names : List (List ℕ)) → loaded ≡ [] → name ≡ job.setup
     → LoadGives files loaded name (Ok first) → SetupFiles first (Ok names) → ClockGives (asks_clock job) job first (Ok after) → map ≡ files
