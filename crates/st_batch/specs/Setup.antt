@@ -70,7 +70,7 @@ SetupRefuses s fault =
     ⊎ (((first : Loaded) × (var : Var) × LoadGives s.files [] s.job.setup (Ok first) × SetupFiles first (Err (setup.WrongKind var)) × (fault ≡ WrongKind var))
     ⊎ (((first : Loaded) × (names : List (List ℕ)) × (cause : IdFault) × Begins s first names × ClockGives (asks_clock s.job) s.job first (Err cause) × (fault ≡ id_fault cause))
     ⊎ ((first : Loaded) × (names : List (List ℕ)) × (job : Job) × (cause : KernelFault) × Begins s first names
-        × ClockGives (asks_clock s.job) s.job first (Ok job) × LoadsGive s.files first names (Err cause) × (fault ≡ line_fault cause))))
+    × ClockGives (asks_clock s.job) s.job first (Ok job) × LoadsGive s.files first names (Err cause) × (fault ≡ line_fault cause))))
 
 -- What the setup gives: the session before the first line, or the first refusal.
 abbrev pub SetupGives : Setting → Result State LineFault → Type 0

@@ -28,7 +28,10 @@ pub enum LineFault {
     FileTooLong,
     /// The file is no text kernel: the line, from 1, and what breaks there.
     #[error("no text kernel, by its line {line}")]
-    KernelText { line: u64, cause: TextCause },
+    KernelText {
+        line: u64,
+        cause: TextCause,
+    },
     /// 1,000 kernels are loaded.
     #[error("1,000 kernels are loaded")]
     TooManyKernels,
@@ -55,7 +58,11 @@ pub enum LineFault {
     BadDeltet(DeltetFault),
     /// The values of the variables of the clock with the id `-n` are no clock.
     #[error("no clock: {var:?}, {why:?}")]
-    BadClock { var: ClockVar, why: ClockWhy, n: u32 },
+    BadClock {
+        var: ClockVar,
+        why: ClockWhy,
+        n: u32,
+    },
     /// The text has none of the forms of a time.
     #[error("no time")]
     BadTime,

@@ -11,12 +11,12 @@ ghost use Rattle.st_batch.specs.LinesSteps.{work_of};
 ghost use Rattle.st_batch.specs.Words.{is_sample};
 
 use crate::answering::Answering;
-use st_words::Work;
 use crate::session::Session;
 use crate::status::{Status, stopped_by};
 use st_decimal::{Line, OutOfMemory};
 use st_outside::{Files, Sink, SinkFault, Source};
 use st_text::{line_end, without_cr};
+use st_words::Work;
 use std::alloc::Global;
 
 /// The most bytes that the input may have.

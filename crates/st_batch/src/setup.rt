@@ -9,8 +9,8 @@ ghost use Rattle.st_batch.specs.Setup.{ClockGives, LoadsGive, asks_clock};
 
 use crate::kernel_fault::KernelFault;
 use crate::load::load_file;
-use st_decimal::KText;
 use st_dates::System;
+use st_decimal::KText;
 use st_outside::Files;
 use st_pool::Pool;
 use st_words::{IdFault, Job, setup_clock};

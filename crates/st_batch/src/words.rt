@@ -4,7 +4,7 @@ ghost use Rattle.std.specs.Prelude.{◌≡◌, ◌≢◌, Ok, Err, IfOk, IfErr, 
 ghost use Rattle.st_words.specs.Job.{IsGoodJob};
 ghost use Rattle.st_batch.specs.Words.{WordsAsk, is_sample, is_sample_word, sample_place};
 
-use st_words::{Job, Work, WordFault, read_words};
+use st_words::{Job, WordFault, Work, read_words};
 use std::alloc::Global;
 
 /// The job that the words ask for. The lines of `-sample` are not built yet: it is refused as an unknown word.
