@@ -4,7 +4,7 @@ use Rattle.std.proofs.Common.{◌≡◌, ◌≢◌, ℕ, ◌<◌, ◌≤◌, ◌
 use Rattle.std.proofs.lemmas.Bool.{cases_Bool, cases_lt, false≢true}
 use Rattle.std.proofs.lemmas.Slice.Eq.{bytes_eq-Decides}
 use Rattle.std.specs.Str.{bytes_eq}
-use Rattle.st_answers.specs.Laws.{AreTold, IsExact}
+use Rattle.st_answers.specs.Laws.{IsExact}
 use Rattle.st_answers.specs.Ready.{IsReady}
 use Rattle.st_outside.specs.Entries.{Entries}
 use Rattle.st_pool.specs.Loaded.{is_loaded, without_last}

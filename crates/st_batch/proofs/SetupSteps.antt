@@ -1,5 +1,5 @@
 -- The setup, step by step: what refuses it has its cause, and the job keeps its work.
-use Rattle.std.proofs.Common.{◌≡◌, ◌≢◌, ℕ, ◌+◌, ◌-◌, ◌^◌, ◌<◌, ◌≤◌, Bool, true, false, ◌&&◌, Option, Some, None, is_none, Result, Ok, Err, IfErr, List, [], ◌∷◌, length, drop, get_or, inl, inr, refl, sym, ap, ◌∙◌, subst, arith}
+use Rattle.std.proofs.Common.{◌≡◌, ◌≢◌, ℕ, ◌+◌, ◌<◌, Bool, true, false, ◌&&◌, Option, Some, None, is_none, Result, Ok, Err, IfErr, List, [], ◌∷◌, length, drop, get_or, inl, inr, refl, sym, ap, ◌∙◌, subst, arith}
 use Rattle.std.proofs.lemmas.Bool.{false≢true}
 use Rattle.std.proofs.lemmas.List.{drop_more}
 use Rattle.std.specs.Result.{IsErr, IsErrAnd}
@@ -8,7 +8,7 @@ use Rattle.st_outside.specs.Entries.{Entries}
 use Rattle.st_answers.specs.Ready.{IsReady}
 use Rattle.st_answers.specs.Sides.{has_clock}
 use Rattle.st_words.specs.Job.{IsGoodJob}
-use Rattle.st_words.specs.Setup.{SetupClock, SetupFiles}
+use Rattle.st_words.specs.Setup.{SetupFiles}
 use Rattle.st_words.specs.declared.fault.IdFault.{IdFault}
 use Rattle.st_words.specs.declared.fault.IdFault.TheVariants as id
 use Rattle.st_words.specs.declared.fault.SetupFault.{SetupFault}
@@ -22,7 +22,7 @@ use Rattle.st_batch.specs.Causes.{IsCaused}
 use Rattle.st_batch.specs.Load.{LoadGives, line_fault}
 use Rattle.st_batch.specs.Setting.{Loaded, Setting, State}
 use Rattle.st_batch.specs.Words.{is_sample}
-use Rattle.st_batch.specs.Setup.{Begins, ClockGives, LoadsGive, SetupGives, asks_clock, files_fault, id_fault, with_clock}
+use Rattle.st_batch.specs.Setup.{ClockGives, LoadsGive, SetupGives, asks_clock, files_fault, id_fault}
 
 -- a cause in a later part is one in the whole, where no fault came before
 pub caused-earlier : (fault : KernelFault) (a b c : FileCounts) → AreLater a b → b.faults ≡ a.faults → IsCaused (line_fault fault) b c → IsCaused (line_fault fault) a c

@@ -11,7 +11,7 @@ use Rattle.st_tables.specs.declared.fault.TableFault.{TableFault}
 use Rattle.st_tables.specs.declared.fault.TableFault.TheVariants as table
 use Rattle.st_words.specs.declared.job.Job.{Job}
 use Rattle.st_batch.specs.declared.answer.Answer.{Answer}
-use Rattle.st_batch.specs.declared.answer.Answer.TheVariants.{Text, Refused}
+use Rattle.st_batch.specs.declared.answer.Answer.TheVariants.{Refused}
 use Rattle.st_batch.specs.declared.fault.LineFault.{LineFault}
 use Rattle.st_batch.specs.declared.fault.LineFault.TheVariants as line
 use Rattle.st_batch.specs.Setting.{Loaded}
