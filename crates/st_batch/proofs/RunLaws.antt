@@ -1,5 +1,5 @@
 -- What a run wrote is what it may write, by how it ended.
-use Rattle.std.proofs.Common.{◌≡◌, ◌≢◌, ℕ, inl, inr, Option, Ok, Err, List, [], refl, sym, ap, ◌∙◌, subst}
+use Rattle.std.proofs.Common.{◌≡◌, ◌≢◌, ℕ, inl, inr, Option, Ok, Err, List, [], refl, sym, ◌∙◌, subst}
 use Rattle.std.proofs.KnownBytes.{Appends-nil}
 use Rattle.st_outside.specs.States.{FilesState, InputState}
 use Rattle.st_words.specs.declared.fault.WordFault.{WordFault}
@@ -11,7 +11,7 @@ use Rattle.st_batch.specs.declared.status.Status.TheVariants.{Done, SomeRefused,
 use Rattle.st_batch.specs.Causes.{IsCaused}
 use Rattle.st_batch.specs.Outcome.{Outside, LinesOutcome, IsAnswered, IsCutOff, Outcome, ReadsNothing, Took, around, over}
 use Rattle.st_batch.specs.OutputSteps.{Delivers, IsCut}
-use Rattle.st_batch.specs.Setting.{Loaded, State, setting}
+use Rattle.st_batch.specs.Setting.{State}
 use Rattle.st_batch.specs.Setup.{SetupGives}
 use Rattle.st_batch.specs.Texts.{setup_line, words_line}
 use Rattle.st_batch.specs.Words.{WordsAsk}

@@ -1,5 +1,5 @@
 -- The commands, and the answer of a line from that of its text.
-use Rattle.std.proofs.Common.{◌≡◌, ◌≢◌, ℕ, ◌≤◌, inl, inr, Bool, true, false, Option, Result, Ok, Err, IfOk, List, [], length, codes, refl, sym, ◌∙◌, subst}
+use Rattle.std.proofs.Common.{◌≡◌, ◌≢◌, ℕ, ◌≤◌, inl, inr, Bool, true, false, Option, Result, Ok, Err, IfOk, List, length, codes, refl, sym, ◌∙◌, subst}
 use Rattle.st_outside.specs.Entries.{Entries}
 use Rattle.st_pool.specs.Loaded.{is_loaded}
 use Rattle.st_text.specs.Lines.{trimmed}
@@ -12,7 +12,6 @@ use Rattle.st_batch.specs.Causes.{IsAnswerCaused, IsCaused}
 use Rattle.st_batch.specs.declared.fault.LineFault.{LineFault}
 use Rattle.st_batch.specs.declared.fault.LineFault.TheVariants.{BadCommand, LineTooLong, NotLoaded, OutOfMemory}
 use Rattle.st_words.specs.declared.job.Job.{Job}
-use Rattle.st_words.specs.declared.job.Work.TheVariants.{Batch}
 use Rattle.st_batch.specs.declared.session.TheConstants.{MAX_LINE}
 use Rattle.st_batch.specs.Commands.{LoadAnswers, begins_command, load_answer, unload_answer}
 use Rattle.st_batch.specs.Load.{LoadGives, line_fault}

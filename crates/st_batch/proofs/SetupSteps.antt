@@ -1,5 +1,5 @@
 -- The setup, step by step: what refuses it has its cause, and the job keeps its work.
-use Rattle.std.proofs.Common.{◌≡◌, ◌≢◌, ℕ, ◌+◌, ◌-◌, ◌^◌, ◌<◌, ◌≤◌, Bool, true, false, ◌&&◌, Option, Some, None, is_none, Result, Ok, Err, IfErr, List, [], ◌∷◌, length, drop, get_or, inl, inr, refl, sym, ap, ◌∙◌, subst, arith}
+use Rattle.std.proofs.Common.{◌≡◌, ◌≢◌, ℕ, ◌+◌, ◌<◌, Bool, true, false, ◌&&◌, Option, Some, None, is_none, Result, Ok, Err, IfErr, List, [], ◌∷◌, length, drop, get_or, inl, inr, refl, sym, ap, ◌∙◌, subst, arith}
 use Rattle.std.proofs.lemmas.Bool.{false≢true}
 use Rattle.std.proofs.lemmas.List.{drop_more}
 use Rattle.std.specs.Result.{IsErr, IsErrAnd}
@@ -8,7 +8,7 @@ use Rattle.st_outside.specs.Entries.{Entries}
 use Rattle.st_answers.specs.Ready.{IsReady}
 use Rattle.st_answers.specs.Sides.{has_clock}
 use Rattle.st_words.specs.Job.{IsGoodJob}
-use Rattle.st_words.specs.Setup.{SetupClock, SetupFiles}
+use Rattle.st_words.specs.Setup.{SetupFiles}
 use Rattle.st_words.specs.declared.fault.IdFault.{IdFault}
 use Rattle.st_words.specs.declared.fault.IdFault.TheVariants as id
 use Rattle.st_words.specs.declared.fault.SetupFault.{SetupFault}
@@ -22,7 +22,7 @@ use Rattle.st_batch.specs.Causes.{IsCaused}
 use Rattle.st_batch.specs.Load.{LoadGives, line_fault}
 use Rattle.st_batch.specs.Setting.{Loaded, Setting, State}
 use Rattle.st_batch.specs.Words.{is_sample}
-use Rattle.st_batch.specs.Setup.{Begins, ClockGives, LoadsGive, SetupGives, asks_clock, files_fault, id_fault, with_clock}
+use Rattle.st_batch.specs.Setup.{ClockGives, LoadsGive, SetupGives, asks_clock, files_fault, id_fault}
 
 -- a cause in a later part is one in the whole, where no fault came before
 pub caused-earlier : (fault : KernelFault) (a b c : FileCounts) → AreLater a b → b.faults ≡ a.faults → IsCaused (line_fault fault) b c → IsCaused (line_fault fault) a c
@@ -87,6 +87,15 @@ begun : (files : Option Entries) (loaded first : Loaded) (name setup : List ℕ)
 begun files loaded first name setup none is h =
     let P : Loaded → List ℕ → Type 0 = λ l n. LoadGives files l n (Ok first) in
     subst (λ (n : List ℕ). P [] n) is (subst (λ (l : Loaded). P l name) none h)
+
+pub opened-first : {A : Type 0} (files : Option Entries) (job : Job) (loaded : Loaded) (name : List ℕ) (fault : KernelFault) (r : Result A LineFault) → loaded ≡ [] → name ≡ job.setup
+    → (fault ≢ kernel.OutOfMemory → LoadGives files loaded name (Err fault)) → IsErr r × IsErrAnd r (λ f. f ≡ line_fault fault)
+    → IfErr r (λ f. f ≢ line.OutOfMemory → SetupGives (record { files = files; job = job }) (Err f))
+opened-first files job loaded name fault r none is given err =
+    let s : Setting = record { files = files; job = job } in
+    let P : List ℕ → Type 0 = λ n. LoadGives files [] n (Err fault) in
+    let first : line_fault fault ≢ line.OutOfMemory → LoadGives files [] job.setup (Err fault) = λ not. subst P is (subst (λ (l : Loaded). LoadGives files l name (Err fault)) none (given (kernel-memory fault not))) in
+    setup-refused s r (line_fault fault) err (λ not. inl (fault, first not, refl))
 
 pub opened-names : {A : Type 0} (files : Option Entries) (job : Job) (loaded first : Loaded) (name : List ℕ) (fault : SetupFault) (r : Result A LineFault) → loaded ≡ [] → name ≡ job.setup
     → LoadGives files loaded name (Ok first) → (fault ≢ setup.OutOfMemory → SetupFiles first (Err fault)) → IsErr r × IsErrAnd r (λ f. f ≡ files_fault fault)

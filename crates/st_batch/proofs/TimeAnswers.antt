@@ -1,8 +1,7 @@
 -- The answers of times want no cause, and none is want of memory.
-use Rattle.std.proofs.Common.{◌≡◌, ◌≢◌, ℕ, inl, inr, Bool, true, false, Option, unwrap_or, Result, Ok, Err, List, refl, sym, ap, ◌∙◌, subst}
+use Rattle.std.proofs.Common.{◌≡◌, ◌≢◌, ℕ, inl, inr, Bool, true, false, Result, Ok, Err, List, refl, sym, ◌∙◌, subst}
 use Rattle.st_outside.specs.Causes.{FileCounts}
-use Rattle.st_answers.specs.Answer.{AnswerBy, AnswerGives, ForwardGives, HasGiven, back_job}
-use Rattle.st_answers.specs.Asked.{TablesRefuse}
+use Rattle.st_answers.specs.Answer.{AnswerBy, AnswerGives, ForwardGives, back_job}
 use Rattle.st_answers.specs.declared.fault.AnswerFault.{AnswerFault}
 use Rattle.st_answers.specs.declared.fault.AnswerFault.TheVariants as answer
 use Rattle.st_routes.specs.declared.fault.TimeFault.{TimeFault}
@@ -11,7 +10,7 @@ use Rattle.st_tables.specs.declared.fault.TableFault.{TableFault}
 use Rattle.st_tables.specs.declared.fault.TableFault.TheVariants as table
 use Rattle.st_words.specs.declared.job.Job.{Job}
 use Rattle.st_batch.specs.declared.answer.Answer.{Answer}
-use Rattle.st_batch.specs.declared.answer.Answer.TheVariants.{Text, Refused}
+use Rattle.st_batch.specs.declared.answer.Answer.TheVariants.{Refused}
 use Rattle.st_batch.specs.declared.fault.LineFault.{LineFault}
 use Rattle.st_batch.specs.declared.fault.LineFault.TheVariants as line
 use Rattle.st_batch.specs.Causes.{IsAnswerCaused, IsCaused}

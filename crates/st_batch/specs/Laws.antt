@@ -1,6 +1,8 @@
 -- What the definitions of a run say by themselves, as laws.
 use Rattle.std.specs.Prelude.{◌≡◌, ◌≢◌, ℕ, ◌<◌, ◌^◌, ◌-◌, Option, Some, Result, Ok, Err, List, ◌++◌, count_by, length, ◌≤◌, ⊤}
 use Rattle.st_outside.specs.Entries.{Entries}
+use Rattle.st_answers.specs.Laws.{AreTold, IsExact}
+use Rattle.st_answers.specs.Ready.{IsReady}
 use Rattle.st_batch.specs.declared.answer.Answer.{Answer}
 use Rattle.st_batch.specs.declared.answer.Answer.TheVariants.{Refused}
 use Rattle.st_batch.specs.declared.kernel_fault.KernelFault.{KernelFault}
@@ -11,6 +13,7 @@ use Rattle.st_batch.specs.declared.status.Status.{Status}
 use Rattle.st_batch.specs.declared.status.Status.TheVariants.{Done, SomeRefused, BadWords, BadSetup, InputTooLong}
 use Rattle.st_batch.specs.Causes.{is_file_fault}
 use Rattle.st_batch.specs.Limits.{most_input_bytes}
+use Rattle.st_batch.specs.Lines.{AreLines}
 use Rattle.st_batch.specs.Load.{LoadGives}
 use Rattle.st_batch.specs.Outcome.{HaveEnded, Outcome, Outside, over}
 use Rattle.st_batch.specs.Session.{MayAnswer, RunsTo}
@@ -34,24 +37,50 @@ pub record IsTold (o : Outside) (files : Entries) (input : List ℕ) : Type 0 wh
   pub no_fault : o.files_after.counts.faults ≡ o.files.counts.faults
   pub not_last : o.files.counts.faults < 2 ^ 64 - 1
 
--- Where the files had no fault the words, the files and the input allow at most one whole output, with one status, whatever the counts are.
+-- answers to some first of these lines lead from a loaded list to another
+pub record IsReached (s : Setting) (loaded : Loaded) (lines : List (List ℕ)) (reached : Loaded) : Type 0 where
+  pub first : List (List ℕ)
+  pub more : List (List ℕ)
+  pub answers : List Answer
+  pub among : lines ≡ first ++ more
+  pub answered : RunsTo s loaded first answers reached
+
+-- each loaded list that is reached gives or refuses the tables that the job asks for
+abbrev pub AreAllTold : Setting → Loaded → List (List ℕ) → Type 0
+AreAllTold s loaded lines = (reached : Loaded) → IsReached s loaded lines reached → AreTold s.job reached
+
+-- by each loaded list that is reached no sine stands on the job's way
+abbrev pub AreAllExact : Setting → Loaded → List (List ℕ) → Type 0
+AreAllExact s loaded lines = (reached : Loaded) → IsReached s loaded lines reached → IsExact s.job reached
+
+-- the same for the job that the words ask for, its setup and its lines
+abbrev pub IsExactRun : Outside → List (List ℕ) → Type 0
+IsExactRun o words =
+    (job : Job) (session : State) (lines : List (List ℕ)) → WordsAsk words (Ok job) → SetupGives (over o job) (Ok session)
+    → AreLines session.job.work session.loaded o.input.left lines → AreAllExact (over o session.job) session.loaded lines
+
+-- Where the files had no fault, and no sine stands on the job's way, the words, the files and the input allow at most one whole
+-- output, with one status, whatever the counts are.
 abbrev pub OneOutput : Type 0
 OneOutput =
     (o p : Outside) (files : Entries) (input : List ℕ) (words : List (List ℕ)) (first second : Status) (one other : List ℕ)
-    → IsTold o files input → IsTold p files input → IsComplete first → IsComplete second
+    → IsTold o files input → IsTold p files input → IsExactRun o words → IsComplete first → IsComplete second
     → Outcome o words first one → Outcome p words second other → (first ≡ second) × (one ≡ other)
 
--- Every line has an answer by every loaded list and all files, and one that names no fault of the files.
+-- For a job that is ready every line has an answer by every loaded list that gives or refuses the job's tables, and all files,
+-- and one that names no fault of the files.
 abbrev pub EveryLineHasAnswer : Type 0
 EveryLineHasAnswer =
-    (s : Setting) (loaded : Loaded) (line : List ℕ)
+    (s : Setting) (loaded : Loaded) (line : List ℕ) → IsReady s.job → AreTold s.job loaded
     → (answer : Answer) × ((after : Loaded) × MayAnswer s loaded line answer after × (answer ≢ Refused FileFault))
 
--- By files that tell their bytes a line has at most one answer, with one loaded list after it, that names no fault of the files.
+-- By files that tell their bytes, and a loaded list by which no sine stands on the way of a job that is ready, a line has at most
+-- one answer, with one loaded list after it, that names no fault of the files.
 abbrev pub OneAnswer : Type 0
 OneAnswer =
     (s : Setting) (files : Entries) (loaded after next : Loaded) (line : List ℕ) (answer other : Answer)
-    → s.files ≡ Some files → MayAnswer s loaded line answer after → MayAnswer s loaded line other next
+    → s.files ≡ Some files → IsReady s.job → IsExact s.job loaded
+    → MayAnswer s loaded line answer after → MayAnswer s loaded line other next
     → answer ≢ Refused FileFault → other ≢ Refused FileFault → (answer ≡ other) × (after ≡ next)
 
 -- Every loading gives something, and something other than a fault of the files.
@@ -72,11 +101,12 @@ abbrev pub OneEnding : Type 0
 OneEnding =
     (input left : List ℕ) (lines other : List (List ℕ)) → HaveEnded (Some input) (Some left) lines → HaveEnded (Some input) (Some left) other → lines ≡ other
 
--- Answers to some first lines go on to answers to all lines, and those to the later lines name no fault of the files.
+-- For a job that is ready, and where each loaded list that is reached gives or refuses its tables, answers to some first lines
+-- go on to answers to all lines, and those to the later lines name no fault of the files.
 abbrev pub EveryBeginningGoesOn : Type 0
 EveryBeginningGoesOn =
     (s : Setting) (loaded after : Loaded) (lines more : List (List ℕ)) (answers : List Answer)
-    → RunsTo s loaded lines answers after
+    → IsReady s.job → AreAllTold s loaded (lines ++ more) → RunsTo s loaded lines answers after
     → (later : List Answer) × ((last : Loaded) × RunsTo s loaded (lines ++ more) (answers ++ later) last × (count_by is_file_fault later ≡ 0))
 
 -- all lines were answered, or the setup was refused for a fault of the files, or a fault of the input or the output or want of

@@ -1,6 +1,6 @@
 -- What the setup of a job gives: the job with its clock, and the loaded list. The setup file is a kernel; that its variables
 -- LEAPSECONDS_FILE, SCLK_FILE and SPACECRAFT_ID name further kernels and the clock follows the CHRONOS User's Guide.
-use Rattle.std.specs.Prelude.{◌≡◌, ℕ, Bool, true, false, ◌&&◌, ◌||◌, Option, Some, None, is_none, Result, Ok, Err, List, [], ◌∷◌, ◌⊎◌}
+use Rattle.std.specs.Prelude.{◌≡◌, ℕ, Bool, true, false, ◌&&◌, Option, Some, is_none, Result, Ok, Err, List, [], ◌∷◌, ◌⊎◌}
 use Rattle.st_outside.specs.Entries.{Entries}
 use Rattle.st_ticks.specs.declared.variable.Var.{Var}
 use Rattle.st_ticks.specs.declared.variable.Var.TheVariants.{SpacecraftId}

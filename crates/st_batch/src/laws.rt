@@ -1,1 +1,54 @@
-//! Laws of the definitions by which `run` is told.
+//! Laws of the definitions by which `run` is told. Each function does nothing; its contract is the law.
+
+ghost use Rattle.st_batch.specs.Laws.{EveryBeginningGoesOn, EveryLineHasAnswer, EveryLoadingGives, GoodRunIsAnswered, OneAnswer, OneEnding, OneLoading, OneOutput};
+
+/// Every loading gives a loaded list, or a refusal that names no fault of the files.
+pub fn every_loading_gives()
+    ensures { EveryLoadingGives }
+{}
+
+/// Where the files tell their bytes a loading gives at most one thing, unless it names a fault of the files: one loaded list,
+/// or one refusal.
+pub fn one_loading()
+    ensures { OneLoading }
+{}
+
+/// Where the input tells its bytes, what was read of it ends one list of lines. So a run that ended by a failed read has
+/// written the answers to these and no others.
+pub fn one_ending()
+    ensures { OneEnding }
+{}
+
+/// Where the files and the input tell their bytes, words that ask for a job, a setup that opens a session by these bytes and
+/// an input that isn't too long are answered, unless the setup is refused for a fault of the files: only a fault of the
+/// input or the output, or want of memory, cuts the run off.
+pub fn good_run_is_answered()
+    ensures { GoodRunIsAnswered }
+{}
+
+/// Every line has an answer for a job that is ready, as the job of each session is, and by a loaded list that gives the tables
+/// that the job asks for or refuses one.
+pub fn every_line_has_an_answer()
+    ensures { EveryLineHasAnswer }
+{}
+
+/// Where the files tell their bytes a line has at most one answer, with one loaded list after it, that names no fault of
+/// the files, for a job that is ready and by a loaded list by which no sine stands on the job's way, as none does between
+/// UTC, TAI and TT.
+pub fn one_answer()
+    ensures { OneAnswer }
+{}
+
+/// Answers to some first lines go on to answers to all lines, so that what was written of a run that was cut off begins
+/// such answers: for a job that is ready, where each loaded list that answers to first lines lead to gives the tables that
+/// the job asks for or refuses one.
+pub fn every_beginning_goes_on()
+    ensures { EveryBeginningGoesOn }
+{}
+
+/// Where the files and the input tell their bytes and the files had no fault there is at most one whole output, so that
+/// `run`, where it isn't cut off, is then a function of the words, the files and the input: where no sine stands on the
+/// job's way by each loaded list that answers to some first lines lead to.
+pub fn one_output()
+    ensures { OneOutput }
+{}

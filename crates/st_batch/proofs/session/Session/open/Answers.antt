@@ -1,5 +1,10 @@
-use Rattle.st_batch.proofs.SetupSteps.{names-seen, opened, opened-clock, opened-files, opened-names, opened-ready}
+use Rattle.st_batch.proofs.SetupSteps.{names-seen, opened, opened-clock, opened-files, opened-first, opened-names, opened-ready}
 use Rattle.st_batch.proofs.session.Session.open.Goals as goal
+
+pub returns-in_err-load_file-clause-err : goal.returns-in_err-load_file-clause-err
+returns-in_err-load_file-clause-err g c =
+    opened-first _ _ _ _ c.in_err-load_file.field-0.0 c.from_residual.result c.new-pool.ensures c.as_slice.ensures c.in_err-load_file.ensures.err
+    c.from_residual.ensures
 
 pub returns-in_err-names-clause-err : goal.returns-in_err-names-clause-err
 returns-in_err-names-clause-err g c =

@@ -1,0 +1,90 @@
+-- Answers to some first lines go on to answers to all lines.
+use Rattle.std.proofs.Common.{◌≡◌, ◌≢◌, ℕ, cond, count_by, List, [], ◌∷◌, ◌++◌, refl, sym, ap, ◌∙◌, arith, append_assoc}
+use Rattle.std.proofs.lemmas.List.Sums.{sum_by-cons}
+use Rattle.st_answers.specs.Ready.{IsReady}
+use Rattle.st_batch.specs.declared.answer.Answer.{Answer}
+use Rattle.st_batch.specs.declared.answer.Answer.TheVariants.{Text, Refused}
+use Rattle.st_batch.specs.declared.fault.LineFault.TheVariants as line
+use Rattle.st_batch.specs.Causes.{is_file_fault}
+use Rattle.st_batch.specs.Laws.{AreAllTold, EveryBeginningGoesOn, IsReached}
+use Rattle.st_batch.specs.Session.{MayAnswer, RunsTo}
+use Rattle.st_batch.specs.Setting.{Loaded, Setting}
+use Rattle.st_batch.proofs.LineLaws.{some-answer}
+use Rattle.st_batch.proofs.LinesLaws.{runs-join}
+
+-- an answer that names no fault counts for nothing
+counts-none : (answer : Answer) → answer ≢ Refused line.FileFault → ◌≡◌ {A = ℕ} (cond (is_file_fault answer) 1 0) 0
+counts-none (Text said) not = refl
+counts-none (Refused line.FileFault) not = absurd (not refl)
+counts-none (Refused line.BadCommand) not = refl
+counts-none (Refused line.LineTooLong) not = refl
+counts-none (Refused line.NoFile) not = refl
+counts-none (Refused line.FileTooLong) not = refl
+counts-none (Refused (line.KernelText n c)) not = refl
+counts-none (Refused line.TooManyKernels) not = refl
+counts-none (Refused line.TooManyValues) not = refl
+counts-none (Refused line.NotLoaded) not = refl
+counts-none (Refused (line.NoVariable v)) not = refl
+counts-none (Refused (line.WrongKind v)) not = refl
+counts-none (Refused line.BadId) not = refl
+counts-none (Refused (line.BadLeaps f)) not = refl
+counts-none (Refused (line.BadDeltet f)) not = refl
+counts-none (Refused (line.BadClock v w n)) not = refl
+counts-none (Refused line.BadTime) not = refl
+counts-none (Refused line.WrongSystem) not = refl
+counts-none (Refused line.NoSuchDay) not = refl
+counts-none (Refused line.OutOfRange) not = refl
+counts-none (Refused line.NoSuchSecond) not = refl
+counts-none (Refused (line.BadClockText f)) not = refl
+counts-none (Refused line.BeforeClock) not = refl
+counts-none (Refused line.AfterClock) not = refl
+counts-none (Refused line.Undecided) not = refl
+counts-none (Refused line.OutOfMemory) not = refl
+
+-- the loaded list itself is reached, and so is what is reached from the one after the first line, or after some lines
+pub reached-here : (s : Setting) (loaded : Loaded) (lines : List (List ℕ)) → IsReached s loaded lines loaded
+reached-here s loaded lines = record { first = []; more = lines; answers = []; among = refl; answered = refl }
+
+pub reached-later : (s : Setting) (loaded next reached : Loaded) (line : List ℕ) (lines : List (List ℕ)) (answer : Answer) → MayAnswer s loaded line answer next
+    → IsReached s next lines reached → IsReached s loaded (line ∷ lines) reached
+reached-later s loaded next reached line lines answer may r = record {
+  first = line ∷ r.first;
+  more = r.more;
+  answers = answer ∷ r.answers;
+  among = ap (λ (l : List (List ℕ)). line ∷ l) r.among;
+  answered = (next, may, r.answered);
+}
+
+reached-behind : (s : Setting) (loaded after reached : Loaded) (lines more : List (List ℕ)) (answers : List Answer) → RunsTo s loaded lines answers after
+    → IsReached s after more reached → IsReached s loaded (lines ++ more) reached
+reached-behind s loaded after reached lines more answers h r = record {
+  first = lines ++ r.first;
+  more = r.more;
+  answers = answers ++ r.answers;
+  among = ap (λ (l : List (List ℕ)). lines ++ l) r.among ∙ sym (append_assoc lines r.first r.more);
+  answered = runs-join s loaded after reached lines r.first answers r.answers h r.answered;
+}
+
+-- lines have answers that name no fault
+record SomeRun (s : Setting) (loaded : Loaded) (lines : List (List ℕ)) : Type 0 where
+  answers : List Answer
+  last : Loaded
+  runs : RunsTo s loaded lines answers last
+  none : count_by is_file_fault answers ≡ 0
+
+some-run : (s : Setting) (loaded : Loaded) (lines : List (List ℕ)) → IsReady s.job → AreAllTold s loaded lines → SomeRun s loaded lines
+some-run s loaded [] ready told = record { answers = []; last = loaded; runs = refl; none = refl }
+some-run s loaded (line ∷ lines) ready told =
+    let a = some-answer s loaded line ready (told loaded (reached-here s loaded (line ∷ lines))) in
+    let r = some-run s a.1.0 lines ready (λ reached h. told reached (reached-later s loaded a.1.0 reached line lines a.0 a.1.1 h)) in
+    record {
+      answers = a.0 ∷ r.answers;
+      last = r.last;
+      runs = (a.1.0, a.1.1, r.runs);
+      none = omega (arith, sum_by-cons (λ x. cond (is_file_fault x) 1 0) a.0 r.answers, counts-none a.0 a.1.2, r.none);
+    }
+
+pub goes-on : EveryBeginningGoesOn
+goes-on s loaded after lines more answers ready told h =
+    let r = some-run s after more ready (λ reached k. told reached (reached-behind s loaded after reached lines more answers h k)) in
+    (r.answers, (r.last, runs-join s loaded after r.last lines more answers r.answers h r.runs, r.none))

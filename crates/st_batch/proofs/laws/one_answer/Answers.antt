@@ -1,0 +1,5 @@
+use Rattle.st_batch.proofs.LineLaws.{one-answer}
+use Rattle.st_batch.proofs.laws.one_answer.Goals as goal
+
+pub returns : goal.returns
+returns c = one-answer
