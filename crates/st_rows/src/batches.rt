@@ -6,7 +6,7 @@ use std::alloc::Global;
 use std::test::Fail;
 
 /// What a row is about, the status, and each line with its answer.
-const SESSIONS: [(&str, Status, &[(&str, &str)]); 9] = [
+const SESSIONS: [(&str, Status, &[(&str, &str)]); 12] = [
     ("no lines", Status::Done, &[]),
     (
         "a leapseconds kernel for some time",
@@ -103,6 +103,45 @@ const SESSIONS: [(&str, Status, &[(&str, &str)]); 9] = [
             ("$load\t \tshort.tls\t", "loaded"),
             (" 2017-06-01T00:00:00\t", "549547236.000000"),
             ("no time", "refused BAD_TIME"),
+        ],
+    ),
+    (
+        "pairs are added and set anew",
+        Status::SomeRefused,
+        &[
+            ("2030-06-01T00:00:00", "959774437.000000"),
+            ("$load more.tls", "loaded"),
+            ("2030-06-01T00:00:00", "959774438.000000"),
+            ("$load short.tls", "loaded"),
+            ("2030-06-01T00:00:00", "959774436.000000"),
+            ("$unload short.tls", "unloaded"),
+            ("$load more.tls", "loaded"),
+            ("2030-06-01T00:00:00", "refused BAD_LEAPS NOT_RISING 30"),
+            ("$unload more.tls", "unloaded"),
+            ("2030-06-01T00:00:00", "959774438.000000"),
+        ],
+    ),
+    (
+        "a table of another kind, for some time",
+        Status::SomeRefused,
+        &[
+            ("$load wrong.ker", "loaded"),
+            ("2017-06-01T00:00:00", "refused WRONG_KIND DELTET/DELTA_AT"),
+            ("$unload wrong.ker", "unloaded"),
+            ("2017-06-01T00:00:00", "549547237.000000"),
+        ],
+    ),
+    (
+        "a second that is removed, and two that can't be inserted",
+        Status::SomeRefused,
+        &[
+            ("$load minus.tls", "loaded"),
+            ("2029-12-31T23:59:58.5", "946728035.500000"),
+            ("2029-12-31T23:59:59", "refused NO_SUCH_SECOND"),
+            ("2030-01-01T00:00:00", "946728036.000000"),
+            ("$unload minus.tls", "unloaded"),
+            ("$load leap.tls", "loaded"),
+            ("2030-06-01T00:00:00", "refused BAD_LEAPS BAD_STEP 29"),
         ],
     ),
 ];

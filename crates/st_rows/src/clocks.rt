@@ -5,7 +5,7 @@ use std::alloc::Global;
 use std::test::Fail;
 
 /// A setup file's name, its clock kernel's name, and what that kernel says behind the clock's id and type.
-const CLOCKS: [(&str, &str, &str); 6] = [
+const CLOCKS: [(&str, &str, &str); 7] = [
     // A count of seconds and of parts of 256.
     (
         "mission.setup",
@@ -55,6 +55,18 @@ const CLOCKS: [(&str, &str, &str); 6] = [
          SCLK_PARTITION_START_82 = ( 0 )\n\
          SCLK_PARTITION_END_82   = ( 1.0995116277750E+12 )\n\
          SCLK01_COEFFICIENTS_82  = ( 0 0 1 25600 110 1 )\n",
+    ),
+    // Two records, at the second of which the clock is set forward.
+    (
+        "gap.setup",
+        "gap.tsc",
+        "SCLK01_N_FIELDS_82      = ( 2 )\n\
+         SCLK01_MODULI_82        = ( 4294967296 256 )\n\
+         SCLK01_OFFSETS_82       = ( 0 0 )\n\
+         SCLK01_OUTPUT_DELIM_82  = ( 1 )\n\
+         SCLK_PARTITION_START_82 = ( 0 )\n\
+         SCLK_PARTITION_END_82   = ( 1.0995116277750E+12 )\n\
+         SCLK01_COEFFICIENTS_82  = ( 0 0 1 25600 90 1 )\n",
     ),
     // Two partitions.
     (

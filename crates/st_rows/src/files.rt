@@ -67,3 +67,25 @@ pub const CUT: &[u8] = b"\\begindata\nX = ( 1,\n";
 
 /// `plain.ker`: a file of commentary alone.
 pub const PLAIN: &[u8] = b"KPL/LSK\nNothing here.\n";
+
+/// `wrong.ker`: a table that is a text.
+pub const WRONG: &[u8] = b"\\begindata\nDELTET/DELTA_AT = 'ten'\n";
+
+/// `minus.tls`: one more pair, by which a second is removed.
+pub const MINUS: &[u8] = b"\\begindata\nDELTET/DELTA_AT += ( 36, @2030-JAN-1 )\n";
+
+/// `leap.tls`: one more pair, by which two seconds would be inserted.
+pub const LEAP: &[u8] = b"\\begindata\nDELTET/DELTA_AT += ( 39, @2030-JAN-1 )\n";
+
+/// `zero.tls` is `naif.tls` with an orbit that is a circle, on which nothing moves.
+pub const ZERO: &[u8] = b"\\begindata\nDELTET/EB = 0\nDELTET/M = ( 0 0 )\n";
+
+/// `nok.tls` is `naif.tls` by which TDB is TT.
+pub const NO_K: &[u8] = b"\\begindata\nDELTET/K = 0\n";
+
+/// `naif.tls`, and behind it what is given anew.
+pub fn naif_with(alloc: Global, anew: &[u8]) -> Result<Vec<u8>, Fail> {
+    let mut file = Vec::from_slice(alloc, NAIF)?;
+    file.extend_from_slice(anew)?;
+    Ok(file)
+}

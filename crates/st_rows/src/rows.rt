@@ -1,6 +1,8 @@
 //! A row: the words, the files and the input of a run, and how it ends.
 
-use crate::files::{CUT, MIXED, MORE, NAIF, PLAIN, VALUES, short};
+use crate::files::{
+    CUT, LEAP, MINUS, MIXED, MORE, NAIF, NO_K, PLAIN, VALUES, WRONG, ZERO, naif_with, short,
+};
 use st_batch::{Status, run};
 use st_outside::{FileMap, MemFiles, MemSink, MemSource};
 use std::alloc::Global;
@@ -96,12 +98,17 @@ pub fn folder(alloc: Global) -> Result<FileMap, Fail> {
     let mut map = files(alloc)?;
     map.put(b"short.tls", short(alloc)?)?;
     map.put(b"empty.ker", Vec::new(alloc))?;
-    let others: [(&[u8], &[u8]); 5] = [
+    map.put(b"zero.tls", naif_with(alloc, ZERO)?)?;
+    map.put(b"nok.tls", naif_with(alloc, NO_K)?)?;
+    let others: [(&[u8], &[u8]); 8] = [
         (b"more.tls", MORE),
         (b"values.ker", VALUES),
         (b"mixed.ker", MIXED),
         (b"cut.ker", CUT),
         (b"plain.ker", PLAIN),
+        (b"wrong.ker", WRONG),
+        (b"minus.tls", MINUS),
+        (b"leap.tls", LEAP),
     ];
     for (name, bytes) in others {
         map.put(name, Vec::from_slice(alloc, bytes)?)?;

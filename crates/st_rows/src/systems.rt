@@ -1,7 +1,7 @@
 //! Conversions between all systems: the words behind `-setup`, and the whole output.
 
 use crate::clocks::put_clocks;
-use crate::rows::{SAFE_AND_SHORT, add_word, files, run_row};
+use crate::rows::{SAFE_AND_SHORT, add_word, folder, run_row};
 use st_batch::Status;
 use std::alloc::Global;
 use std::process::Abort;
@@ -11,7 +11,7 @@ use std::test::Fail;
 type Row<'a> = (&'a [&'a str], &'a str, &'a str);
 
 /// Between the scales: truncation downwards, the choice of the digits, and the times that stand near a digit's edge.
-const SCALES: [Row; 14] = [
+const SCALES: [Row; 20] = [
     (
         &["naif.tls", "-from", "UTC", "-to", "ET"],
         "2000-01-01T12:00:00",
@@ -128,10 +128,40 @@ const SCALES: [Row; 14] = [
         "99.999927",
     ),
     (&["naif.tls", "-from", "TAI", "-to", "TT"], "0", "32.184000"),
+    (
+        &["naif.tls", "-from", "UTC", "-to", "TT"],
+        "2000-01-01T12:00:00",
+        "64.184000",
+    ),
+    (
+        &["naif.tls", "-from", "UTC", "-to", "TAI"],
+        "2016-12-31T23:59:60.5",
+        "536500836.500000",
+    ),
+    (
+        &["naif.tls", "-from", "TAI", "-to", "UTC"],
+        "536500836.5",
+        "2016-12-31T23:59:60.500",
+    ),
+    (
+        &["zero.tls", "-from", "TT", "-to", "ET"],
+        "99.999999999999",
+        "99.999999",
+    ),
+    (
+        &["zero.tls", "-from", "TT", "-to", "ET"],
+        "100.000000000001",
+        "100.000000",
+    ),
+    (
+        &["nok.tls", "-from", "TT", "-to", "ET"],
+        "100",
+        "100.000000",
+    ),
 ];
 
 /// The forms of a time, and the marks of a picture.
-const FORMS: [Row; 9] = [
+const FORMS: [Row; 12] = [
     (
         &["naif.tls", "-from", "UTC", "-to", "UTC"],
         "DEC 18, 1996 12:28:28",
@@ -211,10 +241,33 @@ const FORMS: [Row; 9] = [
         "0",
         "2000-001",
     ),
+    (
+        &["naif.tls", "-from", "UTC", "-to", "UTC"],
+        "DEC 18,1996",
+        "1996-12-18T00:00:00.000",
+    ),
+    (
+        &["naif.tls", "-from", "TT", "-to", "TT"],
+        "jd 2451545",
+        "0.000000",
+    ),
+    (
+        &[
+            "naif.tls",
+            "-from",
+            "TAI",
+            "-to",
+            "TAI",
+            "-format",
+            "AP:MN ampm",
+        ],
+        "0",
+        "12:00 p.m.",
+    ),
 ];
 
 /// Clock strings and encoded ticks, and the way back.
-const CLOCKS: [Row; 17] = [
+const CLOCKS: [Row; 23] = [
     (
         &["mission.setup", "-from", "SCLK", "-to", "ET"],
         "1/100.128",
@@ -372,6 +425,69 @@ const CLOCKS: [Row; 17] = [
         "1/86400.128",
         "2017-01-02T00:00:00.500",
     ),
+    (
+        &["vgr.setup", "-from", "SCLK", "-to", "SCLK"],
+        "0:0:1",
+        "1/00000:00:001",
+    ),
+    (
+        &["vgr.setup", "-from", "SCLK", "-to", "SCLK"],
+        "0",
+        "1/00000:00:001",
+    ),
+    (
+        &[
+            "gap.setup",
+            "-from",
+            "ET",
+            "-to",
+            "SCLK",
+            "-totype",
+            "TICKS",
+        ],
+        "89.5",
+        "22912",
+    ),
+    (
+        &[
+            "gap.setup",
+            "-from",
+            "ET",
+            "-to",
+            "SCLK",
+            "-totype",
+            "TICKS",
+        ],
+        "90",
+        "25600",
+    ),
+    (
+        &[
+            "gap.setup",
+            "-from",
+            "SCLK",
+            "-to",
+            "ET",
+            "-fromtype",
+            "TICKS",
+        ],
+        "24000",
+        "93.750000",
+    ),
+    (
+        &[
+            "gap.setup",
+            "-from",
+            "SCLK",
+            "-to",
+            "ET",
+            "-fromtype",
+            "TICKS",
+            "-back",
+        ],
+        "24000",
+        "93.750000 back 1/0000000103.192",
+    ),
 ];
 
 /// Times and clock strings that are refused.
@@ -460,7 +576,7 @@ fn run_rows(rt: &impl Abort, alloc: Global, rows: &[Row], wanted: Status) -> Res
     for (setup, time, line) in rows {
         let words = asking(alloc, setup, time)?;
         for outside in SAFE_AND_SHORT {
-            let mut map = files(alloc)?;
+            let mut map = folder(alloc)?;
             put_clocks(alloc, &mut map)?;
             let (status, output) = run_row(alloc, words.as_slice(), map, b"", outside)?;
             assert_eq!(rt; status, wanted, "{time}");
