@@ -1,6 +1,6 @@
 //! Rows whose texts were computed outside, with Python's `datetime` and `fractions`.
 
-use crate::{Picture, PictureFault};
+use crate::{Cell, Picture, PictureFault, PrintFault};
 use st_dates::System;
 use st_decimal::read_dec;
 use st_enclosure::Enc;
@@ -51,6 +51,12 @@ fn prints_counts(rt: HostRuntime) -> Result<(), Fail> {
         ("SP2000.###::RND", 64_183_927_000_000_000_000, "64.184"),
         ("SP2000.######", 64_183_927_268_000_000_000, "64.183927"),
         (
+            "SP2000.#########",
+            64_183_927_268_987_654_321,
+            "64.183927268",
+        ),
+        ("SP2000.###::TDB", 64_183_927_268_000_000_000, "64.183"),
+        (
             "YYYY-MM-DDTHR:MN:SC.###",
             64_183_927_268_000_000_000,
             "2000-01-01T12:01:04.183",
@@ -64,6 +70,23 @@ fn prints_counts(rt: HostRuntime) -> Result<(), Fail> {
     ];
     for row in rows {
         prints(&rt, rt.alloc(), &table, System::Tdb, row)?;
+    }
+    Ok(())
+}
+
+#[test]
+fn prints_tt(rt: HostRuntime) -> Result<(), Fail> {
+    let table = leaps(rt.alloc())?;
+    let rows = [
+        (
+            "YYYY-MM-DDTHR:MN:SC.###::TDT",
+            64_183_927_268_000_000_000,
+            "2000-01-01T12:01:04.183",
+        ),
+        ("SP2000.###::TDT::RND", 64_183_927_268_000_000_000, "64.184"),
+    ];
+    for row in rows {
+        prints(&rt, rt.alloc(), &table, System::Tt, row)?;
     }
     Ok(())
 }
@@ -145,6 +168,12 @@ fn prints_dates(rt: HostRuntime) -> Result<(), Fail> {
             "2199 12 DEC Dec dec DECEMBER December december 31 365 TUE Tue tue TUESDAY Tuesday tuesday 23 11 59 59.999 P.M. p.m.",
             "6311390399.999",
             "2524593.4999",
+        ),
+        (
+            6_311_390_400_000 * MILLI,
+            "2200 01 JAN Jan jan JANUARY January january 01 001 WED Wed wed WEDNESDAY Wednesday wednesday 00 12 00 00.000 A.M. a.m.",
+            "6311390400.000",
+            "2524593.5000",
         ),
         (
             5_097_600_000 * MILLI,
@@ -230,6 +259,56 @@ fn prints_words(rt: HostRuntime) -> Result<(), Fail> {
     for row in rows {
         prints(&rt, rt.alloc(), &table, System::Tai, row)?;
     }
+    Ok(())
+}
+
+#[test]
+fn prints_months_and_years(rt: HostRuntime) -> Result<(), Fail> {
+    let table = leaps(rt.alloc())?;
+    let rows = [
+        ("YYYY-MM", 2_635_200 * SECOND, "2000-02"),
+        ("MON YYYY", 2_635_200 * SECOND - 1, "JAN 2000"),
+        ("YYYY", -43_200 * SECOND, "2000"),
+        ("YYYY", -43_200 * SECOND - 1, "1999"),
+    ];
+    for row in rows {
+        prints(&rt, rt.alloc(), &table, System::Tai, row)?;
+    }
+    Ok(())
+}
+
+#[test]
+fn tells_both_ends(rt: HostRuntime) -> Result<(), Fail> {
+    let table = leaps(rt.alloc())?;
+    let picture = Picture::read(rt.alloc(), b"SP2000", System::Tai)?;
+    let line = picture.print_in(rt.alloc(), Enc { lo: 0, hi: 1 }, Some(&table))?;
+    assert_eq!(rt; line.as_slice(), b"0".as_slice());
+    let answer = picture
+        .print_in(rt.alloc(), Enc { lo: -1, hi: 0 }, Some(&table))
+        .map(|_line| ());
+    let ends = PrintFault::Undecided {
+        lo: Cell::Count(-1),
+        hi: Cell::Count(0),
+    };
+    assert_eq!(rt; answer, Err(ends));
+    Ok(())
+}
+
+#[test]
+fn knows_seconds_alone(rt: HostRuntime) -> Result<(), Fail> {
+    let seconds = Picture::read(rt.alloc(), b"SP2000.######", System::Tdb)?;
+    assert!(rt; seconds.seconds_alone());
+    let years = Picture::read(rt.alloc(), b"YYYY", System::Tdb)?;
+    assert!(rt; !years.seconds_alone());
+    Ok(())
+}
+
+#[test]
+fn refuses_long_pictures(rt: HostRuntime) -> Result<(), Fail> {
+    let longest = Picture::read(rt.alloc(), &[b'D'; 255], System::Tai).map(|_picture| ());
+    assert_eq!(rt; longest, Ok(()));
+    let longer = Picture::read(rt.alloc(), &[b'D'; 256], System::Tai).map(|_picture| ());
+    assert_eq!(rt; longer, Err(PictureFault::TooLong));
     Ok(())
 }
 

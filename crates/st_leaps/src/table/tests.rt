@@ -35,7 +35,7 @@ const PAIRS: [(i128, i32); 29] = [
     (36, 10_958),
 ];
 
-/// Days, units of the day, and TAI.
+/// Days, units of the day, and TAI, which was computed outside.
 const LABELS: [(i32, i128, i128); 24] = [
     (-36_524, 0, -3_155_716_791_000_000_000_000_000_000),
     (-36_524, 1, -3_155_716_790_999_999_999_999_999_999),
@@ -368,5 +368,15 @@ fn counts_from_one_less_than_none(rt: HostRuntime) -> Result<(), Fail> {
         }
     );
     assert_eq!(rt; table.utc_of(-43_200 * SECOND), Label { day: 0, of_day: 0 });
+    assert_eq!(rt; tai_of(&table, -1, 0), Some(Ok(-129_601 * SECOND)));
+    assert_eq!(rt;
+        tai_of(&table, -1, 86_400 * SECOND),
+        Some(Ok(-43_201 * SECOND))
+    );
+    assert_eq!(rt;
+        tai_of(&table, -1, 86_401 * SECOND),
+        Some(Err(NoSuchSecond))
+    );
+    assert_eq!(rt; tai_of(&table, 0, 0), Some(Ok(-43_200 * SECOND)));
     Ok(())
 }
