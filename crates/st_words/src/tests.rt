@@ -37,6 +37,8 @@ fn is_refused(rt: &impl Abort, alloc: Global, row: &str, wanted: &str) -> Result
 fn refuses_words_by_place(rt: HostRuntime) -> Result<(), Fail> {
     let rows = [
         ("--help", "UNKNOWN 1"),
+        ("--version", "UNKNOWN 1"),
+        ("-ſetup a", "UNKNOWN 1"),
         ("-trace", "UNKNOWN 1"),
         ("", "MISSING -setup"),
         ("-setup a x -from UTC", "UNKNOWN 3"),
@@ -61,6 +63,9 @@ fn refuses_words_by_place(rt: HostRuntime) -> Result<(), Fail> {
         ("-setup ", "BAD_VALUE 2"),
         ("-from XYZ", "BAD_VALUE 2"),
         ("-from SCET", "BAD_VALUE 2"),
+        ("-from ſclk", "BAD_VALUE 2"),
+        ("-batch -to ſCLK", "BAD_VALUE 3"),
+        ("-totype ſcet", "BAD_VALUE 2"),
         ("-batch -fromtype UTC", "BAD_VALUE 3"),
         ("-to TICKS", "BAD_VALUE 2"),
         ("-totype SP2000", "BAD_VALUE 2"),
@@ -92,6 +97,7 @@ fn refuses_words_by_rule(rt: HostRuntime) -> Result<(), Fail> {
     let rows = [
         ("-batch", "MISSING -setup"),
         ("-setup a -to TAI -batch", "MISSING -from"),
+        ("-setup a -batch", "MISSING -from"),
         ("-setup a -from UTC", "MISSING -to"),
         (
             "-setup a -from UTC -fromtype TICKS -to TAI",
@@ -122,11 +128,19 @@ fn refuses_words_by_rule(rt: HostRuntime) -> Result<(), Fail> {
             "CONFLICT -time -sample",
         ),
         (
+            "-setup a -from UTC -to SCLK -format YYYY -sample 1 0 -time x",
+            "CONFLICT -time -sample",
+        ),
+        (
             "-setup a -from UTC -to SCLK -format YYYY -sample 1 0 -batch",
             "CONFLICT -batch -sample",
         ),
         (
             "-setup a -from UTC -to SCLK -format YYYY -batch",
+            "CONFLICT -format -to",
+        ),
+        (
+            "-setup a -from UTC -to SCLK -format YYYY -batch -back",
             "CONFLICT -format -to",
         ),
         (
@@ -280,6 +294,10 @@ fn gives_jobs(rt: HostRuntime) -> Result<(), Fail> {
             "-setup a -from UTC -to TAI -format YYYY MM -time $load --help",
             "UTC calendar TAI picture 0 time of 12",
         ),
+        (
+            "-setup a -from TAI -to ET -time 5\r",
+            "TAI any ET seconds 0 time of 2",
+        ),
     ];
     for (row, wanted) in rows {
         let words = words_of(rt.alloc(), row)?;
@@ -301,4 +319,21 @@ fn limits_names(rt: HostRuntime) -> Result<(), Fail> {
         assert_eq!(rt; read_words(rt.alloc(), words.as_slice()).is_ok(), good);
     }
     Ok(())
+}
+
+#[test]
+fn limits_pictures(rt: HostRuntime) -> Result<(), Fail> {
+    let start = "-setup a -from UTC -to TAI -batch -format YYYY ";
+    let mut row = String::from_str(rt.alloc(), start)?;
+    for _ in 0..250 {
+        row.push('-')?;
+    }
+    let words = words_of(rt.alloc(), row.as_str())?;
+    let job = read_words(rt.alloc(), words.as_slice())?;
+    assert_eq!(rt;
+        told(rt.alloc(), &job)?.as_str(),
+        "UTC calendar TAI picture 0 batch"
+    );
+    row.push('-')?;
+    is_refused(&rt, rt.alloc(), row.as_str(), "PICTURE TOO_LONG")
 }
