@@ -67,6 +67,7 @@ fn gives_times_and_ticks(rt: HostRuntime) -> Result<(), Fail> {
     assert_eq!(rt; usual.time_of(u64::MAX), Err(ClockRange::OutOfRange));
     assert_eq!(rt; usual.ticks_of(1_953_125_000_000_000), Ticks::At(1));
     assert_eq!(rt; usual.ticks_of(1_953_124_000_000_000), Ticks::At(0));
+    assert_eq!(rt; usual.ticks_of(100_500 * MILLI), Ticks::At(25_728));
     let late = Dec {
         digits: 110,
         tens: 0,
@@ -224,5 +225,183 @@ fn counts_four_fields(rt: HostRuntime) -> Result<(), Fail> {
         of: 7_280,
     };
     assert_eq!(rt; clock.time_of(7_360), Ok(at));
+    Ok(())
+}
+
+#[test]
+fn keeps_the_time_of_a_string(rt: HostRuntime) -> Result<(), Fail> {
+    let end = [Dec {
+        digits: 1_099_511_627_775,
+        tens: 0,
+    }];
+    let start = Dec {
+        digits: 536_500_869_184,
+        tens: -3,
+    };
+    let Ok(tsc) = clock(rt.alloc(), TWO, &end, &[NONE, start, ONE]) else {
+        assert!(rt; false);
+        return Ok(());
+    };
+    let at = Point {
+        units: 536_587_269_684 * MILLI,
+        part: 0,
+        of: 256,
+    };
+    assert_eq!(rt; tsc.time_of(22_118_528), Ok(at));
+    let lo = 536_587_269_684 * MILLI;
+    assert_eq!(rt; tsc.ticks_of(lo), Ticks::At(22_118_528));
+    let one = tsc.ticks_in(Enc { lo, hi: lo + 1 });
+    assert!(rt; matches!(one, Ok(Ticks::At(22_118_528))));
+    assert_eq!(rt; tsc.ticks_of(536_500_869_183 * MILLI), Ticks::Before);
+    assert!(rt; tsc.scale() == Scale::Tt);
+    Ok(())
+}
+
+const HALF: Dec = Dec {
+    digits: 5,
+    tens: -1,
+};
+
+const LEAST: Dec = Dec {
+    digits: -1,
+    tens: 0,
+};
+
+/// A tenth of a unit.
+const FINE: Dec = Dec {
+    digits: 1,
+    tens: -19,
+};
+
+/// 10^38 units.
+const HUGE: Dec = Dec {
+    digits: 1,
+    tens: 20,
+};
+
+const MOST_TICKS: Dec = Dec {
+    digits: 1,
+    tens: 18,
+};
+
+const MORE_TICKS: Dec = Dec {
+    digits: 1_000_000_000_000_000_001,
+    tens: 0,
+};
+
+const MOST_TIME: Dec = Dec {
+    digits: 1,
+    tens: 10,
+};
+
+const MORE_TIME: Dec = Dec {
+    digits: 10_000_000_000_000_000_000_000_000_001,
+    tens: -18,
+};
+
+const LESS_TIME: Dec = Dec {
+    digits: -10_000_000_000_000_000_000_000_000_001,
+    tens: -18,
+};
+
+const MOST_RATE: Dec = Dec { digits: 1, tens: 5 };
+
+const MORE_RATE: Dec = Dec {
+    digits: 100_001,
+    tens: 0,
+};
+
+#[test]
+fn refuses_coefficients(rt: HostRuntime) -> Result<(), Fail> {
+    let end = [Dec {
+        digits: 1_099_511_627_775,
+        tens: 0,
+    }];
+    let count = ClockFault {
+        var: ClockVar::Coefficients,
+        why: ClockWhy::Count,
+    };
+    let none = clock(rt.alloc(), ONE, &end, &[]);
+    assert!(rt; matches!(none, Err(FaceFault::Bad(found)) if found == count));
+    let two = clock(rt.alloc(), ONE, &end, &[NONE, NONE]);
+    assert!(rt; matches!(two, Err(FaceFault::Bad(found)) if found == count));
+    let four = clock(rt.alloc(), ONE, &end, &[NONE, NONE, ONE, HALF]);
+    assert!(rt; matches!(four, Err(FaceFault::Bad(found)) if found == count));
+    let whole = ClockFault {
+        var: ClockVar::Coefficients,
+        why: ClockWhy::NotWhole,
+    };
+    let half = clock(rt.alloc(), ONE, &end, &[HALF, NONE, ONE]);
+    assert!(rt; matches!(half, Err(FaceFault::Bad(found)) if found == whole));
+    let half_first = clock(rt.alloc(), ONE, &end, &[HALF, FINE, NONE]);
+    assert!(rt; matches!(half_first, Err(FaceFault::Bad(found)) if found == whole));
+    let parts = ClockFault {
+        var: ClockVar::Coefficients,
+        why: ClockWhy::NotUnits,
+    };
+    let fine_time = clock(rt.alloc(), ONE, &end, &[NONE, FINE, ONE]);
+    assert!(rt; matches!(fine_time, Err(FaceFault::Bad(found)) if found == parts));
+    let fine_rate = clock(rt.alloc(), ONE, &end, &[NONE, NONE, FINE]);
+    assert!(rt; matches!(fine_rate, Err(FaceFault::Bad(found)) if found == parts));
+    let huge_time = clock(rt.alloc(), ONE, &end, &[NONE, HUGE, ONE]);
+    assert!(rt; matches!(huge_time, Err(FaceFault::Bad(found)) if found == parts));
+    let parts_first = clock(rt.alloc(), ONE, &end, &[LEAST, FINE, NONE]);
+    assert!(rt; matches!(parts_first, Err(FaceFault::Bad(found)) if found == parts));
+    Ok(())
+}
+
+#[test]
+fn refuses_coefficients_out_of_range(rt: HostRuntime) -> Result<(), Fail> {
+    let end = [Dec {
+        digits: 1_099_511_627_775,
+        tens: 0,
+    }];
+    let range = ClockFault {
+        var: ClockVar::Coefficients,
+        why: ClockWhy::Range,
+    };
+    let more_ticks = clock(rt.alloc(), ONE, &end, &[MORE_TICKS, NONE, ONE]);
+    assert!(rt; matches!(more_ticks, Err(FaceFault::Bad(found)) if found == range));
+    let fewer_ticks = clock(rt.alloc(), ONE, &end, &[LEAST, NONE, ONE]);
+    assert!(rt; matches!(fewer_ticks, Err(FaceFault::Bad(found)) if found == range));
+    let more_time = clock(rt.alloc(), ONE, &end, &[NONE, MORE_TIME, ONE]);
+    assert!(rt; matches!(more_time, Err(FaceFault::Bad(found)) if found == range));
+    let less_time = clock(rt.alloc(), ONE, &end, &[NONE, LESS_TIME, ONE]);
+    assert!(rt; matches!(less_time, Err(FaceFault::Bad(found)) if found == range));
+    let no_rate = clock(rt.alloc(), ONE, &end, &[NONE, NONE, NONE]);
+    assert!(rt; matches!(no_rate, Err(FaceFault::Bad(found)) if found == range));
+    let more_rate = clock(rt.alloc(), ONE, &end, &[NONE, NONE, MORE_RATE]);
+    assert!(rt; matches!(more_rate, Err(FaceFault::Bad(found)) if found == range));
+    let range_first = clock(rt.alloc(), ONE, &end, &[NONE, NONE, ONE, NONE, NONE, NONE]);
+    assert!(rt; matches!(range_first, Err(FaceFault::Bad(found)) if found == range));
+    let Ok(most) = clock(rt.alloc(), ONE, &end, &[MOST_TICKS, MOST_TIME, MOST_RATE]) else {
+        assert!(rt; false);
+        return Ok(());
+    };
+    assert!(rt; most.scale() == Scale::Tdb);
+    Ok(())
+}
+
+#[test]
+fn refuses_systems(rt: HostRuntime) -> Result<(), Fail> {
+    let kind = ClockFault {
+        var: ClockVar::DataType,
+        why: ClockWhy::Range,
+    };
+    assert_eq!(rt; check_system(&[TWO], &[]), Err(kind));
+    assert_eq!(rt; check_system(&[TWO], &[ONE, TWO]), Err(kind));
+    let many = ClockFault {
+        var: ClockVar::TimeSystem,
+        why: ClockWhy::NotOne,
+    };
+    assert_eq!(rt; check_system(&[ONE], &[ONE, TWO]), Err(many));
+    let range = ClockFault {
+        var: ClockVar::TimeSystem,
+        why: ClockWhy::Range,
+    };
+    let three = Dec { digits: 3, tens: 0 };
+    assert_eq!(rt; check_system(&[ONE], &[three]), Err(range));
+    assert_eq!(rt; check_system(&[ONE], &[ONE]), Ok(Scale::Tdb));
+    assert_eq!(rt; check_system(&[ONE], &[TWO]), Ok(Scale::Tt));
     Ok(())
 }

@@ -110,6 +110,33 @@ fn two_partitions(alloc: Global) -> Result<Face, FaceFault> {
     )
 }
 
+/// The clock of two fields with an output delimiter.
+fn delimited(alloc: Global, code: Dec) -> Result<Face, FaceFault> {
+    let moduli = [
+        Dec {
+            digits: 4_294_967_296,
+            tens: 0,
+        },
+        Dec {
+            digits: 256,
+            tens: 0,
+        },
+    ];
+    let end = [Dec {
+        digits: 1_099_511_627_775,
+        tens: 0,
+    }];
+    Face::from_parts(
+        alloc,
+        &[TWO],
+        &moduli,
+        &[NONE, NONE],
+        &[code],
+        &[NONE],
+        &end,
+    )
+}
+
 const FORM: Result<u64, ClockTextFault> = Err(ClockTextFault::Form);
 
 #[test]
@@ -212,6 +239,69 @@ fn tells_partitions(rt: HostRuntime) -> Result<(), Fail> {
 }
 
 #[test]
+fn refuses_in_order(rt: HostRuntime) -> Result<(), Fail> {
+    let Ok(face) = offset(rt.alloc()) else {
+        assert!(rt; false);
+        return Ok(());
+    };
+    let table: [(&[u8], Result<u64, ClockTextFault>); 7] = [
+        (b"2/0:0:0:0", Err(ClockTextFault::TooManyFields)),
+        (b"2/0:0:0", Err(ClockTextFault::NoPartition)),
+        (b"2/1000000000000000001", Err(ClockTextFault::NoPartition)),
+        (
+            b"1000000000000000001:0:0",
+            Err(ClockTextFault::FieldBelowOffset),
+        ),
+        (
+            b"2000000000000000001:0:0",
+            Err(ClockTextFault::FieldBelowOffset),
+        ),
+        (b"65536:0:0", Err(ClockTextFault::FieldBelowOffset)),
+        (b"1000000000000000001:0:1", Err(ClockTextFault::TooLarge)),
+    ];
+    for (text, answer) in table {
+        assert_eq!(rt; face.read_clock(text), answer);
+    }
+    Ok(())
+}
+
+#[test]
+fn writes_with_each_delimiter(rt: HostRuntime) -> Result<(), Fail> {
+    let Ok(face) = two_fields(rt.alloc()) else {
+        assert!(rt; false);
+        return Ok(());
+    };
+    assert!(rt; 25_600 <= face.total());
+    let whole = face.write_clock(rt.alloc(), 25_600)?;
+    assert_eq!(rt; whole.as_slice(), b"1/0000000100.000".as_slice());
+    assert!(rt; 25_728 <= face.total());
+    let half = face.write_clock(rt.alloc(), 25_728)?;
+    assert_eq!(rt; half.as_slice(), b"1/0000000100.128".as_slice());
+    let Ok(dashed) = delimited(rt.alloc(), Dec { digits: 3, tens: 0 }) else {
+        assert!(rt; false);
+        return Ok(());
+    };
+    assert!(rt; 25_728 <= dashed.total());
+    let dashed_line = dashed.write_clock(rt.alloc(), 25_728)?;
+    assert_eq!(rt; dashed_line.as_slice(), b"1/0000000100-128".as_slice());
+    let Ok(listed) = delimited(rt.alloc(), Dec { digits: 4, tens: 0 }) else {
+        assert!(rt; false);
+        return Ok(());
+    };
+    assert!(rt; 25_728 <= listed.total());
+    let listed_line = listed.write_clock(rt.alloc(), 25_728)?;
+    assert_eq!(rt; listed_line.as_slice(), b"1/0000000100,128".as_slice());
+    let Ok(spaced) = delimited(rt.alloc(), Dec { digits: 5, tens: 0 }) else {
+        assert!(rt; false);
+        return Ok(());
+    };
+    assert!(rt; 25_728 <= spaced.total());
+    let spaced_line = spaced.write_clock(rt.alloc(), 25_728)?;
+    assert_eq!(rt; spaced_line.as_slice(), b"1/0000000100 128".as_slice());
+    Ok(())
+}
+
+#[test]
 fn refuses_variables(rt: HostRuntime) {
     let half = Dec {
         digits: 5,
@@ -289,6 +379,16 @@ fn refuses_variables(rt: HostRuntime) {
         rt.alloc(),
         &[ONE],
         &[over],
+        &[NONE],
+        &[ONE],
+        &[NONE],
+        &[ONE],
+    );
+    assert!(rt; is_fault(&face, ClockVar::Moduli, ClockWhy::Range));
+    let face = Face::from_parts(
+        rt.alloc(),
+        &[ONE],
+        &[NONE],
         &[NONE],
         &[ONE],
         &[NONE],
@@ -380,15 +480,26 @@ const MORE_TICKS: Dec = Dec {
     tens: 0,
 };
 
+const LEAST: Dec = Dec {
+    digits: -1,
+    tens: 0,
+};
+
+const ONE_AND_HALF: Dec = Dec {
+    digits: 15,
+    tens: -1,
+};
+
 /// Each row: offsets, delimiter, starts, ends, and the fault.
 #[test]
 fn refuses_one_above_the_limits(rt: HostRuntime) {
     use ClockVar::{Delim, End, Offsets, Start};
     use ClockWhy::{NotOne, NotWhole, Range};
-    let table: [([&[Dec]; 4], ClockVar, ClockWhy); 7] = [
+    let table: [([&[Dec]; 4], ClockVar, ClockWhy); 8] = [
         ([&[HALF], &[ONE], &[NONE], &[ONE]], Offsets, NotWhole),
         ([&[NONE], &[], &[NONE], &[ONE]], Delim, NotOne),
         ([&[NONE], &[ONE, ONE], &[NONE], &[ONE]], Delim, NotOne),
+        ([&[NONE], &[ONE_AND_HALF], &[NONE], &[ONE]], Delim, Range),
         ([&[NONE], &[ONE], &[HALF], &[ONE]], Start, NotWhole),
         ([&[NONE], &[ONE], &[MORE_TICKS], &[ONE]], Start, Range),
         ([&[NONE], &[ONE], &[NONE], &[HALF]], End, NotWhole),
@@ -401,6 +512,21 @@ fn refuses_one_above_the_limits(rt: HostRuntime) {
     let most = [MOST_TICKS];
     let face = Face::from_parts(rt.alloc(), &[ONE], &[ONE], &[NONE], &[ONE], &most, &most);
     assert!(rt; face.is_ok());
+}
+
+/// Each row: offsets, delimiter, starts, ends, and the fault.
+#[test]
+fn refuses_one_below_the_limits(rt: HostRuntime) {
+    use ClockVar::{Delim, Offsets};
+    use ClockWhy::Range;
+    let table: [([&[Dec]; 4], ClockVar, ClockWhy); 2] = [
+        ([&[LEAST], &[ONE], &[NONE], &[ONE]], Offsets, Range),
+        ([&[NONE], &[NONE], &[NONE], &[ONE]], Delim, Range),
+    ];
+    for ([offsets, delim, starts, ends], var, why) in table {
+        let face = Face::from_parts(rt.alloc(), &[ONE], &[ONE], offsets, delim, starts, ends);
+        assert!(rt; is_fault(&face, var, why));
+    }
 }
 
 #[test]
