@@ -7,4 +7,6 @@ pub mod Returns
 pub mod Units
 pub mod Numbers
 pub mod OneAnswer
+pub mod ToldNumbers
+pub mod AnswerLaws
 mod Examples

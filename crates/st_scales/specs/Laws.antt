@@ -1,9 +1,12 @@
 -- The laws of the scales, each for all constants, for every way and for all fractions.
-use Rattle.std.specs.Prelude.{pos}
+use Rattle.std.specs.Prelude.{pos, List, Result}
+use Rattle.st_decimal.specs.declared.number.Dec.{Dec}
 use Rattle.st_fraction.specs.Fraction.{Fraction, IsFraction, ◌≤ᶠ◌, ◌<ᶠ◌, whole, units, ◌+ᶠ◌, ◌-ᶠ◌, ◌*ᶠ◌}
 use Rattle.st_scales.specs.declared.deltet.Deltet.{Deltet}
+use Rattle.st_scales.specs.declared.fault.DeltetFault.{DeltetFault}
 use Rattle.st_scales.specs.declared.scale.Scale.{Scale}
 use Rattle.st_scales.specs.declared.scale.Scale.TheVariants.{Tdb}
+use Rattle.st_scales.specs.Constants.{GiveConstants}
 use Rattle.st_scales.specs.Route.{IsAtLeast, IsAtMost, shift, HasNoSineOnIt}
 
 -- A time has one value: what it is at least is no more than what it is at most.
@@ -53,3 +56,7 @@ RouteReturns = (c : Deltet) (from : Scale) (u x h q a b : Fraction) → IsFracti
     → whole (pos 0) ≤ᶠ h → (whole (pos 3) *ᶠ h) ≤ᶠ (whole (pos 2) *ᶠ q)
     → IsAtLeast c from Tdb u (x -ᶠ h) → IsAtMost c from Tdb u (x +ᶠ h)
     → IsAtLeast c Tdb from x a → IsAtMost c Tdb from x b → (a ≤ᶠ (u +ᶠ q)) × (u ≤ᶠ (b +ᶠ q))
+
+-- Whatever the numbers of the four variables are, they are constants or have a first fault.
+abbrev pub ConstantsAreFound : Type 0
+ConstantsAreFound = (delta_ta k eb m : List Dec) → (answer : Result Deltet DeltetFault) × GiveConstants delta_ta k eb m answer

@@ -3,6 +3,7 @@ pub mod CountLaws
 pub mod FaceLaws
 pub mod FieldLaws
 pub mod FirstLaws
+pub mod FoundLaws
 pub mod JudgeLaws
 pub mod MadeLaws
 pub mod MakingLaws
@@ -15,4 +16,7 @@ pub mod RunLaws
 pub mod SoundLaws
 pub mod SpellingLaws
 pub mod TextLaws
+pub mod Told
+pub mod ToldNumbers
+pub mod ToldRules
 pub mod WholeLaws

@@ -1,12 +1,15 @@
 -- Laws of faces, of their ticks and of their strings.
-use Rattle.std.specs.Prelude.{◌≡◌, ℕ, ◌+◌, ◌<◌, ◌≤◌, ◌↔◌, List, [], ◌∷◌, ◌++◌, length, Result}
+use Rattle.std.specs.Prelude.{◌≡◌, ◌≢◌, ℕ, ◌+◌, ◌<◌, ◌≤◌, ◌↔◌, List, [], ◌∷◌, ◌++◌, length, Result, Err}
 use Rattle.st_ticks.specs.Face.{Face, total, IsField}
 use Rattle.std.specs.List.{All}
 use Rattle.st_ticks.specs.Face.{IsFace}
 use Rattle.st_ticks.specs.Tick.{IsPartitionOf, IsStrictlyInside, IsCanonical, fields_of}
 use Rattle.st_ticks.specs.TickMachine.{canonical}
 use Rattle.st_ticks.specs.Reading.{SpellsTick, ReadsClock, count_of, AreFromOffsets}
+use Rattle.st_ticks.specs.Variables.{Numbers, MakesFace}
 use Rattle.st_ticks.specs.declared.fault.ClockTextFault.{ClockTextFault}
+use Rattle.st_ticks.specs.declared.fault.FaceFault.{FaceFault}
+use Rattle.st_ticks.specs.declared.fault.FaceFault.TheVariants.{OutOfMemory}
 use Rattle.st_ticks.specs.declared.field.Field.{Field}
 
 -- a tick belongs to one partition
@@ -68,3 +71,7 @@ abbrev pub FieldsAreOne : Type 0
 FieldsAreOne =
     (fields : List Field) (values : List ℕ) → length values ≡ length fields → All IsField fields
     → AreFromOffsets fields values → DoNotCarry fields values → values ≡ fields_of fields (count_of fields values)
+
+-- whatever the values of the six variables are, they make a face or break a first rule
+abbrev pub FaceIsFound : Type 0
+FaceIsFound = (n : Numbers) → (answer : Result Face FaceFault) × MakesFace n answer × (answer ≢ Err OutOfMemory)

@@ -1,6 +1,6 @@
 //! Laws of clock strings and ticks. Each function does nothing: its contract is the law.
 
-ghost use Rattle.st_ticks.specs.Laws.{CanonicalIsOne, CanonicalReads, FieldsAreFound, FieldsAreOne, FieldsCarry, InsideIsWithin, PartitionIsFound, PartitionIsOne, ReadingIsFound, ReadingIsOne, TickIsWithin};
+ghost use Rattle.st_ticks.specs.Laws.{CanonicalIsOne, CanonicalReads, FaceIsFound, FieldsAreFound, FieldsAreOne, FieldsCarry, InsideIsWithin, PartitionIsFound, PartitionIsOne, ReadingIsFound, ReadingIsOne, TickIsWithin};
 
 /// Fields are mixed radix numbers: one more in a field is its right neighbour's modulus more there,
 /// and each count has one list of fields of which only the first exceeds its modulus.
@@ -28,4 +28,9 @@ pub fn reading()
 pub fn spelling()
     ensures one { CanonicalIsOne }
     ensures reads { CanonicalReads }
+{}
+
+/// Any values of the six variables make a face, or break a first rule.
+pub fn each_has_answer()
+    ensures { FaceIsFound }
 {}
