@@ -15,3 +15,5 @@ pub mod Gathers
 pub mod RecordLaws
 pub mod ClockLaws
 pub mod Returns
+pub mod ToldParts
+pub mod AnswerLaws

@@ -1,9 +1,11 @@
 -- Laws of clocks, each the contract of an empty function of `laws`.
-use Rattle.std.specs.Prelude.{◌≡◌, ℕ, ◌+◌, ◌<◌, ◌<ℤ◌, pos, List, Some, Ok}
+use Rattle.std.specs.Prelude.{◌≡◌, ◌≢◌, ℕ, ◌+◌, ◌<◌, ◌<ℤ◌, pos, List, Some, Result, Ok, Err}
 use Rattle.std.specs.List.{slice_get}
 use Rattle.st_fraction.specs.Fraction.{Fraction, IsFraction, ◌≤ᶠ◌, ◌<ᶠ◌, ◌≈ᶠ◌, over, ◌+ᶠ◌, ◌-ᶠ◌, ◌*ᶠ◌, IsNear}
 use Rattle.st_decimal.specs.declared.number.Dec.{Dec}
 use Rattle.st_ticks.specs.Face.{Face, IsFace}
+use Rattle.st_ticks.specs.declared.fault.FaceFault.{FaceFault}
+use Rattle.st_ticks.specs.declared.fault.FaceFault.TheVariants.{OutOfMemory}
 use Rattle.st_clock.specs.declared.coefficient.Coefficient.{Coefficient}
 use Rattle.st_clock.specs.declared.ticks.Ticks.{Ticks}
 use Rattle.st_clock.specs.declared.ticks.Ticks.TheVariants.{At}
@@ -61,3 +63,9 @@ abbrev pub PartsGiveClock : Type 0
 PartsGiveClock =
     (face : Face) (data_type time_system coefficients : List Dec) (c : Clock) → IsFace face
     → GivesClock face data_type time_system coefficients (Ok c) → IsClock c
+
+-- whatever the values of the three variables are, they give a clock of a face or break a first rule
+abbrev pub ClockIsFound : Type 0
+ClockIsFound =
+    (face : Face) (data_type time_system coefficients : List Dec)
+    → (answer : Result Clock FaceFault) × GivesClock face data_type time_system coefficients answer × (answer ≢ Err OutOfMemory)

@@ -1,7 +1,7 @@
 //! Laws of clocks, over all fractions. These functions do nothing: their contracts are the laws.
 
 ghost use Rattle.st_clock.specs.Return.{TickReturns, WayBackIsDecided};
-ghost use Rattle.st_clock.specs.Laws.{TickRises, TickIsOne, TickIsFound, TickBetween, TickWithinHalf, TickWithinQuarter, TimeIsOne, StepsRise, PartsGiveClock};
+ghost use Rattle.st_clock.specs.Laws.{TickRises, TickIsOne, TickIsFound, TickBetween, TickWithinHalf, TickWithinQuarter, TimeIsOne, StepsRise, PartsGiveClock, ClockIsFound};
 
 /// Each time has one tick, and the ticks never fall as the time rises.
 pub fn one_tick()
@@ -28,4 +28,9 @@ pub fn records()
 pub fn way_back()
     ensures returns { TickReturns }
     ensures decided { WayBackIsDecided }
+{}
+
+/// Any values of the three variables give a clock of a face, or break a first rule.
+pub fn each_has_answer()
+    ensures { ClockIsFound }
 {}
