@@ -10,6 +10,8 @@ mod clocks;
 #[cfg(test)]
 mod conversions;
 #[cfg(test)]
+mod days;
+#[cfg(test)]
 mod files;
 #[cfg(test)]
 mod refusals;
