@@ -9,6 +9,8 @@ pub mod OneAnswer
 pub mod OneGiven
 pub mod OneTables
 pub mod Printed
+pub mod Settled
 pub mod Sides
 pub mod Sourced
 pub mod Timed
+pub mod Undecided

@@ -1,5 +1,5 @@
--- By one job's tables a text has one answer, where no sine stands on the way.
-use Rattle.std.proofs.Common.{◌≡◌, ◌≢◌, ℕ, Bool, true, false, inl, inr, Option, Some, None, Result, Ok, Err, List, sym, ap, ◌∙◌, subst}
+-- By one job's tables a text has one answer that is settled: neither left undecided nor want of memory.
+use Rattle.std.proofs.Common.{◌≡◌, ℕ, Bool, true, false, inl, inr, Option, Some, None, Result, Ok, Err, List, sym, ap, ◌∙◌, subst}
 use Rattle.st_clock.specs.Clock.{Clock as TheClock, IsClock}
 use Rattle.st_clock.specs.Time.{value_of}
 use Rattle.st_dates.specs.declared.system.System.{System}
@@ -8,19 +8,17 @@ use Rattle.st_forms.proofs.AnswerLaws.{each_has_answer as each-is-read, one_answ
 use Rattle.st_fraction.specs.Fraction.{Fraction, IsFraction, units}
 use Rattle.st_leaps.specs.declared.table.LeapTable.{LeapTable}
 use Rattle.st_picture.specs.Picture.{Picture}
-use Rattle.st_routes.specs.Laws.{EachTextGivesInstant, EachTextGivesTick, ExactIsOne, InstantIsSource, IsTarget, OneInstant, OneTick}
+use Rattle.st_routes.specs.Laws.{EachTextGivesInstant, EachTextGivesTick, InstantIsSource, IsTarget, OneInstant, OneTick}
 use Rattle.st_routes.specs.Outcome.{RouteGives, Target, by_clock, by_picture}
-use Rattle.st_routes.specs.Route.{HasNoSineOnIt, IsNearby}
+use Rattle.st_routes.specs.Route.{IsNearby}
 use Rattle.st_routes.specs.Source.{TickGives}
 use Rattle.st_routes.specs.declared.fault.TimeFault.{TimeFault}
-use Rattle.st_routes.specs.declared.fault.TimeFault.TheVariants.{OutOfMemory}
 use Rattle.st_routes.specs.declared.route.Route.{Route}
 use Rattle.st_routes.specs.declared.route.Route.TheVariants.{Scales}
 use Rattle.st_routes.specs.declared.ticks.TickForm.{TickForm}
 use Rattle.st_routes.specs.declared.ticks.TickForm.TheVariants as tick
 use Rattle.st_routes.proofs.Instants.{each_gives, instant_is_source, one_instant}
 use Rattle.st_routes.proofs.Numbers.{each_gives_tick, one_tick}
-use Rattle.st_routes.proofs.Texts.{exact_is_one}
 use Rattle.st_routes.proofs.Values.{time_is_source}
 use Rattle.st_scales.specs.declared.deltet.Deltet.{Deltet}
 use Rattle.st_scales.specs.declared.scale.Scale.{Scale}
@@ -32,11 +30,12 @@ use Rattle.st_words.specs.declared.job.FromKind.TheVariants as from
 use Rattle.st_words.specs.declared.job.Job.{Job}
 use Rattle.st_words.specs.declared.job.ToKind.{ToKind}
 use Rattle.st_words.specs.declared.job.ToKind.TheVariants as to
-use Rattle.st_answers.specs.Answer.{ClockTimeGives, ConvertGives, GivesBy, IsRouteBy, IsRouteOf, IsScaleOf, IsTargetOf, IsTickSpelled, SourceGives, SpellGives, TickTimeGives, source_form, target_form}
+use Rattle.st_answers.specs.Answer.{ClockTimeGives, ConvertGives, GivesBy, IsRouteBy, IsScaleOf, IsTargetOf, IsTickSpelled, SourceGives, SpellGives, TickTimeGives, source_form, target_form}
 use Rattle.st_answers.specs.Asked.{Tables}
 use Rattle.st_answers.proofs.Found.{some-is}
-use Rattle.st_answers.proofs.Known.{decided, even-days-count, known, tables-count}
+use Rattle.st_answers.proofs.Known.{even-days-count, tables-count}
 use Rattle.st_answers.proofs.Moved.{units-are}
+use Rattle.st_answers.proofs.Settled.{IsSettled, one-settled}
 use Rattle.st_answers.proofs.Timed.{one-tick-text, one-time}
 
 pub instant-found : EachTextGivesInstant
@@ -53,9 +52,6 @@ tick-found = each_gives_tick reading_is_found
 
 pub tick-one : OneTick
 tick-one = one_tick reading_is_one
-
-pub exact-one : ExactIsOne
-exact-one = exact_is_one decided known
 
 pub ok-same : {A : Type 0} (x y : A) → ◌≡◌ {A = Result A TimeFault} (Ok x) (Ok y) → x ≡ y
 ok-same x y e = cc
@@ -147,22 +143,22 @@ target-is system to.Clock tables target clocks is (c, has, e) = subst IsTarget (
 target-is system to.Ticks tables target clocks is (c, has, e) = subst IsTarget (sym e) (clocks c has)
 
 convert-one : (job : Job) (tables : Tables) (text : List ℕ) (x y : Result (List ℕ) TimeFault) → HasClocks tables → IsJobTarget job.to job.shape
-    → ((route : Route) → IsRouteOf job tables route → HasNoSineOnIt route) → x ≢ Err OutOfMemory → y ≢ Err OutOfMemory
+    → IsSettled x → IsSettled y
     → ConvertGives job tables text x → ConvertGives job tables text y → x ≡ y
-convert-one job tables text x y clocks aimed none nx ny (inl (f, s, e)) (inl (g, t, h)) =
+convert-one job tables text x y clocks aimed sx sy (inl (f, s, e)) (inl (g, t, h)) =
     e ∙ ap Err (err-same f g (source-one job.form job.from tables text (Err f) (Err g) clocks s t)) ∙ sym h
-convert-one job tables text x y clocks aimed none nx ny (inl (f, s, e)) (inr (r, route, target, t, way, aim, gives)) =
+convert-one job tables text x y clocks aimed sx sy (inl (f, s, e)) (inr (r, route, target, t, way, aim, gives)) =
     absurd (err-ok f r (source-one job.form job.from tables text (Err f) (Ok r) clocks s t))
-convert-one job tables text x y clocks aimed none nx ny (inr (r, route, target, t, way, aim, gives)) (inl (f, s, e)) =
+convert-one job tables text x y clocks aimed sx sy (inr (r, route, target, t, way, aim, gives)) (inl (f, s, e)) =
     absurd (ok-err r f (source-one job.form job.from tables text (Ok r) (Err f) clocks t s))
-convert-one job tables text x y clocks aimed none nx ny (inr (r, route, target, t, way, aim, gives)) (inr (s, path, mark, u, other, aims, tells)) =
+convert-one job tables text x y clocks aimed sx sy (inr (r, route, target, t, way, aim, gives)) (inr (s, path, mark, u, other, aims, tells)) =
     let value : s ≡ r = ok-same s r (source-one job.form job.from tables text (Ok s) (Ok r) clocks u t) in
     let ways : path ≡ route = route-one tables.constants job.from job.to tables path route other way in
     let targets : mark ≡ target = target-one job.shape tables mark target aims aim in
     let P : Fraction → Type 0 = λ z. RouteGives path z mark y in
     let Q : Route → Type 0 = λ z. RouteGives z r mark y in
     let R : Target → Type 0 = λ z. RouteGives route r z y in
-    exact-one route r target x y (target-is job.to job.shape tables target clocks aimed aim) (source-near job.form job.from tables text r t).0 (none route way) nx ny gives
+    one-settled route r target x y (target-is job.to job.shape tables target clocks aimed aim) (source-near job.form job.from tables text r t).0 sx sy gives
     (subst R targets (subst Q ways (subst P value tells)))
 
 spelled-one : (clock : TheClock) (form : TickForm) (read : Result ℕ TimeFault) (x y : Result (List ℕ) TimeFault) → IsClock clock → IsTickSpelled clock form read x
@@ -182,7 +178,7 @@ spell-one job tables text x y clocks (c, read, has, ticks, says) (d, other, has2
     (subst R (tick-one c (source_form job.form) text other read (subst P same ticks2) ticks) (subst Q same says2))
 
 pub given-one : (b : Bool) (job : Job) (tables : Tables) (text : List ℕ) (x y : Result (List ℕ) TimeFault) → HasClocks tables → IsJobTarget job.to job.shape
-    → ((route : Route) → IsRouteOf job tables route → HasNoSineOnIt route) → x ≢ Err OutOfMemory → y ≢ Err OutOfMemory
+    → IsSettled x → IsSettled y
     → GivesBy b job tables text x → GivesBy b job tables text y → x ≡ y
-given-one true job tables text x y clocks aimed none nx ny g h = spell-one job tables text x y clocks g h
-given-one false job tables text x y clocks aimed none nx ny g h = convert-one job tables text x y clocks aimed none nx ny g h
+given-one true job tables text x y clocks aimed sx sy g h = spell-one job tables text x y clocks g h
+given-one false job tables text x y clocks aimed sx sy g h = convert-one job tables text x y clocks aimed sx sy g h

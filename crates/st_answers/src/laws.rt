@@ -1,10 +1,26 @@
 //! Laws of the answers. Each function does nothing; its contract is the law.
 
-ghost use Rattle.st_answers.specs.Laws.{EachTextHasAnswer, OneExactAnswer};
+ghost use Rattle.st_answers.specs.Laws.{EachTextHasAnswer, ExactIsDecided, OneDecidedAnswer, OneExactAnswer, UndecidedHasASine};
 
 /// Where its tables are given or refused every text has an answer.
 pub fn each_text_has_answer()
     ensures { EachTextHasAnswer }
+{}
+
+/// Whatever stands on the way, a text has at most one answer that isn't left undecided, with the way back behind it where that
+/// is asked for.
+pub fn one_decided_answer()
+    ensures { OneDecidedAnswer }
+{}
+
+/// An answer is left undecided only where a sine stands on the way there or, where that is asked for, on the way back.
+pub fn undecided_has_a_sine()
+    ensures { UndecidedHasASine }
+{}
+
+/// Where no sine stands on the way no answer is left undecided.
+pub fn exact_is_decided()
+    ensures { ExactIsDecided }
 {}
 
 /// Where no sine stands on the way a text has one answer.
