@@ -7,6 +7,7 @@ pub mod InputLaws
 pub mod KernelLaws
 pub mod LineLaws
 pub mod LinesLaws
+pub mod OneLine
 pub mod OneLoad
 pub mod OneOutput
 pub mod OneSetup

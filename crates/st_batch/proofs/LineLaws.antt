@@ -1,11 +1,9 @@
--- A line has one answer by a loaded list and files that tell their bytes, unless a file is faulty or a sine stands on the job's way;
--- and every line has one where the tables are given or refused.
-use Rattle.std.proofs.Common.{◌≡◌, ◌≢◌, ℕ, ◌<◌, ◌≤◌, ◌⊎◌, inl, inr, Bool, true, false, Option, Some, Result, Ok, Err, List, [], length, codes, refl, sym, ap, ◌∙◌, subst, arith}
+-- A command has one answer by a loaded list and files that tell their bytes, unless a file is faulty; and every line has one where
+-- the tables are given or refused.
+use Rattle.std.proofs.Common.{◌≡◌, ◌≢◌, ℕ, ◌<◌, ◌≤◌, ◌⊎◌, inl, inr, Bool, true, false, Option, Some, Result, Ok, Err, List, [], length, codes, refl, sym, ap, ◌∙◌, subst}
 use Rattle.std.proofs.lemmas.Bool.{cases_Bool, cases_lt, false≢true}
 use Rattle.std.proofs.lemmas.Slice.Eq.{bytes_eq-Decides}
 use Rattle.std.specs.Str.{bytes_eq}
-use Rattle.st_answers.specs.Laws.{IsExact}
-use Rattle.st_answers.specs.Ready.{IsReady}
 use Rattle.st_outside.specs.Entries.{Entries}
 use Rattle.st_pool.specs.Loaded.{is_loaded, without_last}
 use Rattle.st_text.specs.Lines.{trimmed}
@@ -17,13 +15,13 @@ use Rattle.st_batch.specs.declared.fault.LineFault.{LineFault}
 use Rattle.st_batch.specs.declared.fault.LineFault.TheVariants.{BadCommand, LineTooLong, FileFault}
 use Rattle.st_batch.specs.declared.session.TheConstants.{MAX_LINE}
 use Rattle.st_batch.specs.Commands.{CommandGives, IsLoad, IsUnload, LoadAnswers, UnloadAnswers, after_load, begins_command, load_answer, unload_answer}
-use Rattle.st_batch.specs.Laws.{EveryLineHasAnswer, OneAnswer}
+use Rattle.st_batch.specs.Laws.{EveryLineHasAnswer}
 use Rattle.st_batch.specs.Load.{LoadGives, line_fault}
 use Rattle.st_batch.specs.Session.{MayAnswer, TextGives}
 use Rattle.st_batch.specs.Setting.{Loaded, Setting}
 use Rattle.st_batch.proofs.CommandLaws as command
 use Rattle.st_batch.proofs.OneLoad.{one-load, some-load}
-use Rattle.st_batch.proofs.TimesLaws.{one-time, some-time}
+use Rattle.st_batch.proofs.TimesLaws.{some-time}
 
 -- an answer, and the loaded list after it
 abbrev pub Step : Type 0
@@ -61,7 +59,7 @@ both-unload loaded text x y (a, asked, h) (b, also, k) =
     first ∙ ap (λ (n : List ℕ). (unload_answer (is_loaded n loaded), without_last n loaded)) name ∙ sym second
 
 -- a text is one command, or none
-both-commands : (files : Entries) (loaded : Loaded) (text : List ℕ) (x y : Step) → CommandGives (Some files) loaded text x.0 x.1 → CommandGives (Some files) loaded text y.0 y.1
+pub both-commands : (files : Entries) (loaded : Loaded) (text : List ℕ) (x y : Step) → CommandGives (Some files) loaded text x.0 x.1 → CommandGives (Some files) loaded text y.0 y.1
     → x.0 ≢ Refused FileFault → y.0 ≢ Refused FileFault → x ≡ y
 both-commands files loaded text x y (inl h) (inl k) m n = both-load files loaded text x y h k m n
 both-commands files loaded text x y (inr (inl h)) (inr (inl k)) m n = both-unload loaded text x y h k
@@ -79,29 +77,6 @@ both-commands files loaded text x y (inr (inr (inl (c, e, l)))) (inr (inr (inr (
 both-commands files loaded text x y (inr (inr (inr (k, f, o)))) (inl (a, h, g)) m n = absurd (k.load a h)
 both-commands files loaded text x y (inr (inr (inr (k, f, o)))) (inr (inl (b, h, g))) m n = absurd (k.unload b h)
 both-commands files loaded text x y (inr (inr (inr (k, f, o)))) (inr (inr (inl (c, e, l)))) m n = absurd (k.clear c)
-
-both-texts : (s : Setting) (files : Entries) (loaded : Loaded) (text : List ℕ) (x y : Step) → s.files ≡ Some files → IsReady s.job → IsExact s.job loaded → TextGives s loaded text x.0 x.1 → TextGives s loaded text y.0 y.1
-    → x.0 ≢ Refused FileFault → y.0 ≢ Refused FileFault → x ≡ y
-both-texts s files loaded text x y told ready exact (inl (b, h)) (inl (c, k)) m n =
-    let P : Option Entries → Type 0 = λ f. CommandGives f loaded text x.0 x.1 in
-    let Q : Option Entries → Type 0 = λ f. CommandGives f loaded text y.0 y.1 in
-    both-commands files loaded text x y (subst P told h) (subst Q told k) m n
-both-texts s files loaded text x y told ready exact (inl (b, h)) (inr (c, k, l)) m n = absurd (false≢true (sym c ∙ b))
-both-texts s files loaded text x y told ready exact (inr (c, k, l)) (inl (b, h)) m n = absurd (false≢true (sym c ∙ b))
-both-texts s files loaded text x y told ready exact (inr (b, h, left)) (inr (c, k, is)) m n = λ i. (one-time s.job loaded text x.0 y.0 ready exact h k i, (left ∙ sym is) i)
-
--- a line has one answer, and one loaded list after it
-pub one-step : (s : Setting) (files : Entries) (loaded : Loaded) (line : List ℕ) (x y : Step) → s.files ≡ Some files → IsReady s.job → IsExact s.job loaded → MayAnswer s loaded line x.0 x.1 → MayAnswer s loaded line y.0 y.1
-    → x.0 ≢ Refused FileFault → y.0 ≢ Refused FileFault → x ≡ y
-one-step s files loaded line x y told ready exact (inl (long, said, left)) (inl (also, is, same)) m n = λ i. ((said ∙ sym is) i, (left ∙ sym same) i)
-one-step s files loaded line x y told ready exact (inl (long, said, left)) (inr (short, k)) m n = absurd (omega (arith, long, short))
-one-step s files loaded line x y told ready exact (inr (short, h)) (inl (long, said, left)) m n = absurd (omega (arith, long, short))
-one-step s files loaded line x y told ready exact (inr (short, h)) (inr (also, k)) m n = both-texts s files loaded (trimmed line) x y told ready exact h k m n
-
-pub one-answer : OneAnswer
-one-answer s files loaded after next line answer other told ready exact h k m n =
-    let step = one-step s files loaded line (answer, after) (other, next) told ready exact h k m n in
-    (ap (λ (t : Step). t.0) step, ap (λ (t : Step). t.1) step)
 
 -- an answer that names no fault of the files
 abbrev HasAnswer : Setting → Loaded → List ℕ → Type 0

@@ -1,11 +1,9 @@
--- Where the files had no fault, and no sine stands on the job's way, the definitions allow one whole output.
-use Rattle.std.proofs.Common.{◌≡◌, ◌≢◌, ℕ, ◌+◌, ◌-◌, ◌^◌, ◌<◌, ◌⊎◌, inl, inr, cond, count_by, Option, Some, Ok, Err, List, [], ◌∷◌, refl, sym, ap, ◌∙◌, subst, arith}
-use Rattle.std.proofs.lemmas.List.Sums.{sum_by-cons}
+-- Where the files had no fault, two whole outputs are of answers that agree; where no sine stands on the job's way they are one.
+use Rattle.std.proofs.Common.{◌≡◌, ◌≢◌, ℕ, ◌-◌, ◌^◌, ◌<◌, ◌⊎◌, inl, inr, count_by, Option, Some, Ok, Err, List, [], ◌∷◌, refl, sym, ap, ◌∙◌, subst, arith}
 use Rattle.st_answers.specs.Ready.{IsReady}
 use Rattle.st_outside.specs.Causes.{RoseBy}
 use Rattle.st_outside.specs.Entries.{Entries}
 use Rattle.st_batch.specs.declared.answer.Answer.{Answer}
-use Rattle.st_batch.specs.declared.answer.Answer.TheVariants.{Refused}
 use Rattle.st_words.specs.declared.fault.WordFault.{WordFault}
 use Rattle.st_batch.specs.declared.fault.LineFault.{LineFault}
 use Rattle.st_batch.specs.declared.fault.LineFault.TheVariants.{FileFault}
@@ -16,7 +14,7 @@ use Rattle.st_words.proofs.GoodJob.{good_job}
 use Rattle.st_batch.specs.declared.status.Status.{Status}
 use Rattle.st_batch.specs.declared.status.Status.TheVariants.{Done, SomeRefused, BadWords, BadSetup, ReadFault, WriteFault, OutOfMemory, InputTooLong}
 use Rattle.st_batch.specs.Causes.{IsCaused, is_file_fault}
-use Rattle.st_batch.specs.Laws.{AreAllExact, IsComplete, IsExactRun, IsTold, OneOutput}
+use Rattle.st_batch.specs.Laws.{AgreeEach, AgreeOutputs, AreAllExact, IsComplete, IsExactRun, IsTold, OneDecidedOutput, OneOutput}
 use Rattle.st_batch.specs.Outcome.{Outside, AllAnswered, WordsRefused, SetupRefused, Outcome, output_of, over, status_of}
 use Rattle.st_batch.specs.Session.{RunsTo}
 use Rattle.st_batch.specs.Setting.{Loaded, Setting, State}
@@ -25,7 +23,7 @@ use Rattle.st_batch.specs.Texts.{setup_line, words_line}
 use Rattle.st_batch.specs.Lines.{AreLines}
 use Rattle.st_batch.specs.Words.{WordsAsk}
 use Rattle.st_batch.proofs.GoesOn.{reached-here, reached-later}
-use Rattle.st_batch.proofs.LineLaws.{Step, one-step}
+use Rattle.st_batch.proofs.OneLine.{decided-run, names-none, one-answer, rest-none}
 use Rattle.st_batch.proofs.OneSetup.{not-both, one-refusal, one-setup}
 use Rattle.st_batch.proofs.SetupSteps.{opened-ready}
 use Rattle.st_batch.proofs.WordsLaws.{one-job, one-or-none}
@@ -34,17 +32,6 @@ use Rattle.st_batch.proofs.WordsLaws as words_laws
 -- a count that stood still leaves no answer that names a fault
 none-rose : (n before now : ℕ) → now ≡ before → before < 2 ^ 64 - 1 → RoseBy n before now → n ≡ 0
 none-rose n before now same less h = omega (arith, same, less, h)
-
-count-first : (answer : Answer) (answers : List Answer) → count_by is_file_fault (answer ∷ answers) ≡ cond (is_file_fault answer) 1 0 + count_by is_file_fault answers
-count-first answer answers = sum_by-cons (λ a. cond (is_file_fault a) 1 0) answer answers
-
-names-none : (answer : Answer) (n : ℕ) → ◌≡◌ {A = ℕ} (cond (is_file_fault answer) 1 0 + n) 0 → answer ≢ Refused FileFault
-names-none answer n none = λ e.
-    let P : Answer → Type 0 = λ a. ◌≡◌ {A = ℕ} (cond (is_file_fault a) 1 0 + n) 0 in
-    absurd (omega (arith, subst P e none))
-
-rest-none : (answer : Answer) (n : ℕ) → ◌≡◌ {A = ℕ} (cond (is_file_fault answer) 1 0 + n) 0 → n ≡ 0
-rest-none answer n none = omega (arith, none)
 
 -- lines have one list of answers
 one-run : (s : Setting) (files : Entries) (loaded : Loaded) (lines : List (List ℕ)) (a b : List Answer) (x y : Loaded) → s.files ≡ Some files → IsReady s.job → AreAllExact s loaded lines
@@ -55,13 +42,11 @@ one-run s files loaded [] (p ∷ a) b x y told ready exact h k m n = absurd h
 one-run s files loaded (line ∷ lines) [] b x y told ready exact h k m n = absurd h
 one-run s files loaded (line ∷ lines) (p ∷ a) [] x y told ready exact h k m n = absurd k
 one-run s files loaded (line ∷ lines) (p ∷ a) (q ∷ b) x y told ready exact (v, may, more) (w, can, rest) m n =
-    let step = one-step s files loaded line (p, v) (q, w) told ready (exact loaded (reached-here s loaded (line ∷ lines))) may can (names-none p (count_by is_file_fault a) (sym (count-first p a) ∙ m)) (names-none q (count_by is_file_fault b) (sym (count-first q b) ∙ n)) in
+    let step = one-answer s files loaded v w line p q told ready (exact loaded (reached-here s loaded (line ∷ lines))) may can (names-none p a m) (names-none q b n) in
     let P : Loaded → Type 0 = λ l. RunsTo s l lines a x in
-    let next = ap (λ (t : Step). t.1) step in
     let later : AreAllExact s w lines = λ reached r. exact reached (reached-later s loaded w reached line lines q can r) in
-    let answers = one-run s files w lines a b x y told ready later (subst P next more) rest (rest-none p (count_by is_file_fault a) (sym (count-first p a) ∙ m)) (rest-none q (count_by is_file_fault b) (sym (count-first q b) ∙ n)) in
-    let first = ap (λ (t : Step). t.0) step in
-    λ i. first i ∷ answers i
+    let answers = one-run s files w lines a b x y told ready later (subst P step.1 more) rest (rest-none p a m) (rest-none q b n) in
+    λ i. step.0 i ∷ answers i
 
 one-lines : (work : Work) (loaded : Loaded) (input : List ℕ) (a b : List (List ℕ)) → AreLines work loaded (Some input) a → AreLines work loaded (Some input) b → a ≡ b
 one-lines (Time text) loaded input a b h k = h ∙ sym k
@@ -93,21 +78,36 @@ IsSame first second one other = (first ≡ second) × (one ≡ other)
 same-over : (o p : Outside) (files : Entries) (job other : Job) → o.files.map ≡ Some files → p.files.map ≡ Some files → job ≡ other → over o job ≡ over p other
 same-over o p files job other e f same = λ i. record { files = (e ∙ sym f) i; job = same i }
 
-both-answered : (o p : Outside) (files : Entries) (input : List ℕ) (job : Job) (loaded : Loaded) (first second : Status) (one other : List ℕ) → IsTold o files input → IsTold p files input
-    → IsReady job → ((lines : List (List ℕ)) → AreLines job.work loaded o.input.left lines → AreAllExact (over o job) loaded lines)
-    → AllAnswered o job loaded first one → AllAnswered p job loaded second other → IsSame first second one other
-both-answered o p files input job loaded first second one other told same ready exact h k =
-    let Lines : Option (List ℕ) → Type 0 = λ i. AreLines job.work loaded i h.lines in
-    let Others : Option (List ℕ) → Type 0 = λ i. AreLines job.work loaded i k.lines in
-    let lines : k.lines ≡ h.lines = one-lines job.work loaded input k.lines h.lines (subst Others same.input_told k.are_lines) (subst Lines told.input_told h.are_lines) in
-    let setting : over p job ≡ over o job = same-over p o files job job same.files_told told.files_told refl in
-    let By : Setting → Type 0 = λ s. RunsTo s loaded k.lines k.answers k.after in
-    let Over : List (List ℕ) → Type 0 = λ ls. RunsTo (over o job) loaded ls k.answers k.after in
-    let answers : h.answers ≡ k.answers =
-    one-run (over o job) files loaded h.lines h.answers k.answers h.after k.after told.files_told ready (exact h.lines h.are_lines) h.answered (subst Over lines (subst By setting k.answered))
-    (none-rose (count_by is_file_fault h.answers) o.files.counts.faults o.files_after.counts.faults told.no_fault told.not_last h.counted.faults)
-    (none-rose (count_by is_file_fault k.answers) p.files.counts.faults p.files_after.counts.faults same.no_fault same.not_last k.counted.faults) in
-    (h.ended ∙ ap status_of answers ∙ sym k.ended, h.written ∙ ap (output_of job.work) answers ∙ sym k.written)
+-- all lines were answered twice
+module _ (o p : Outside) (files : Entries) (input : List ℕ) (job : Job) (loaded : Loaded) (first second : Status) (one other : List ℕ) (told : IsTold o files input)
+    (same : IsTold p files input) (ready : IsReady job) (h : AllAnswered o job loaded first one) (k : AllAnswered p job loaded second other) where
+  same-lines : h.lines ≡ k.lines
+  same-lines =
+      let Lines : Option (List ℕ) → Type 0 = λ i. AreLines job.work loaded i h.lines in
+      let Others : Option (List ℕ) → Type 0 = λ i. AreLines job.work loaded i k.lines in
+      one-lines job.work loaded input h.lines k.lines (subst Lines told.input_told h.are_lines) (subst Others same.input_told k.are_lines)
+
+  again-runs : RunsTo (over o job) loaded h.lines k.answers k.after
+  again-runs =
+      let setting : over p job ≡ over o job = same-over p o files job job same.files_told told.files_told refl in
+      let By : Setting → Type 0 = λ s. RunsTo s loaded k.lines k.answers k.after in
+      let Over : List (List ℕ) → Type 0 = λ ls. RunsTo (over o job) loaded ls k.answers k.after in
+      subst Over (sym same-lines) (subst By setting k.answered)
+
+  run-none : count_by is_file_fault h.answers ≡ 0
+  run-none = none-rose (count_by is_file_fault h.answers) o.files.counts.faults o.files_after.counts.faults told.no_fault told.not_last h.counted.faults
+
+  again-none : count_by is_file_fault k.answers ≡ 0
+  again-none = none-rose (count_by is_file_fault k.answers) p.files.counts.faults p.files_after.counts.faults same.no_fault same.not_last k.counted.faults
+
+  agree-answers : AgreeEach h.answers k.answers
+  agree-answers =
+      (decided-run (over o job) files loaded h.after k.after h.lines h.answers k.answers told.files_told ready h.answered again-runs run-none again-none).0
+
+  exact-answers : AreAllExact (over o job) loaded h.lines → IsSame first second one other
+  exact-answers exact =
+      let answers = one-run (over o job) files loaded h.lines h.answers k.answers h.after k.after told.files_told ready exact h.answered again-runs run-none again-none in
+      (h.ended ∙ ap status_of answers ∙ sym k.ended, h.written ∙ ap (output_of job.work) answers ∙ sym k.written)
 
 -- a run that was answered, with its job and its session
 record AnsweredRun (o : Outside) (words : List (List ℕ)) (status : Status) (bytes : List ℕ) : Type 0 where
@@ -117,15 +117,32 @@ record AnsweredRun (o : Outside) (words : List (List ℕ)) (status : Status) (by
   all : AllAnswered o session.job session.loaded status bytes
 
 both-runs : (o p : Outside) (files : Entries) (input : List ℕ) (words : List (List ℕ)) (first second : Status) (one other : List ℕ) → IsTold o files input → IsTold p files input
-    → IsExactRun o words → AnsweredRun o words first one → AnsweredRun p words second other → IsSame first second one other
-both-runs o p files input words first second one other told same exact h k =
+    → AnsweredRun o words first one → AnsweredRun p words second other → AgreeOutputs o p words first second one other
+both-runs o p files input words first second one other told same h k =
     let job : k.job ≡ h.job = one-job words k.job h.job k.opening.asked h.opening.asked in
     let setting = same-over p o files k.job h.job same.files_told told.files_told job in
     let Setup : Setting → Type 0 = λ s. SetupGives s (Ok k.session) in
     let session : k.session ≡ h.session = one-setup (over o h.job) files k.session h.session told.files_told (subst Setup setting k.opening.setup) h.opening.setup in
     let By : State → Type 0 = λ s. AllAnswered p s.job s.loaded second other in
-    both-answered o p files input h.session.job h.session.loaded first second one other told same (is-ready o words h.job h.session h.opening)
-    (λ lines are. exact h.job h.session lines h.opening.asked h.opening.setup are) h.all (subst By session k.all)
+    let again = subst By session k.all in
+    let ready = is-ready o words h.job h.session h.opening in
+    record {
+      job = h.job;
+      session = h.session;
+      asked = h.opening.asked;
+      setup = h.opening.setup;
+      run = h.all;
+      again = again;
+      lines = same-lines o p files input h.session.job h.session.loaded first second one other told same ready h.all again;
+      agree = agree-answers o p files input h.session.job h.session.loaded first second one other told same ready h.all again;
+    }
+
+-- where no sine stands on the way they have one output
+exact-runs : (o p : Outside) (files : Entries) (input : List ℕ) (words : List (List ℕ)) (first second : Status) (one other : List ℕ) → IsTold o files input → IsTold p files input
+    → IsExactRun o words → AgreeOutputs o p words first second one other → IsSame first second one other
+exact-runs o p files input words first second one other told same exact a =
+    exact-answers o p files input a.session.job a.session.loaded first second one other told same (is-ready o words a.job a.session (record { asked = a.asked; setup = a.setup })) a.run a.again
+    (exact a.job a.session a.run.lines a.asked a.setup a.run.are_lines)
 
 -- a run that was answered and one whose setup was refused don't stand together
 not-one : (o p : Outside) (files : Entries) (input : List ℕ) (words : List (List ℕ)) (status : Status) (cause : LineFault) (one other : List ℕ) → IsTold o files input → IsTold p files input
@@ -159,21 +176,29 @@ ending o words OutOfMemory bytes c h = absurd c
 ending o words InputTooLong bytes c h = absurd c
 
 both : (o p : Outside) (files : Entries) (input : List ℕ) (words : List (List ℕ)) (first second : Status) (one other : List ℕ) → IsTold o files input → IsTold p files input
-    → IsExactRun o words → Ending o words first one → Ending p words second other → IsSame first second one other
-both o p files input words first second one other told same exact (inl h) (inl k) = both-runs o p files input words first second one other told same exact h k
-both o p files input words first second one other told same exact (inl h) (inr (inl (fault, e, k))) = absurd (one-or-none words h.job fault h.opening.asked k.given)
-both o p files input words first second one other told same exact (inl h) (inr (inr (cause, e, k))) = absurd (not-one o p files input words first cause one other told same h k)
-both o p files input words first second one other told same exact (inr (inl (fault, e, h))) (inl k) = absurd (one-or-none words k.job fault k.opening.asked h.given)
-both o p files input words first second one other told same exact (inr (inl (a, e, h))) (inr (inl (b, f, k))) =
+    → Ending o words first one → Ending p words second other → IsSame first second one other ⊎ AgreeOutputs o p words first second one other
+both o p files input words first second one other told same (inl h) (inl k) = inr (both-runs o p files input words first second one other told same h k)
+both o p files input words first second one other told same (inl h) (inr (inl (fault, e, k))) = absurd (one-or-none words h.job fault h.opening.asked k.given)
+both o p files input words first second one other told same (inl h) (inr (inr (cause, e, k))) = absurd (not-one o p files input words first cause one other told same h k)
+both o p files input words first second one other told same (inr (inl (fault, e, h))) (inl k) = absurd (one-or-none words k.job fault k.opening.asked h.given)
+both o p files input words first second one other told same (inr (inl (a, e, h))) (inr (inl (b, f, k))) =
     let fault = words_laws.one-refusal words a b h.given k.given in
-    (e ∙ ap BadWords fault ∙ sym f, h.written ∙ ap words_line fault ∙ sym k.written)
-both o p files input words first second one other told same exact (inr (inl (fault, e, h))) (inr (inr (cause, f, k))) = absurd (one-or-none words k.job fault k.asked h.given)
-both o p files input words first second one other told same exact (inr (inr (cause, e, h))) (inl k) = absurd (not-one p o files input words second cause other one same told k h)
-both o p files input words first second one other told same exact (inr (inr (cause, e, h))) (inr (inl (fault, f, k))) = absurd (one-or-none words h.job fault h.asked k.given)
-both o p files input words first second one other told same exact (inr (inr (c, e, h))) (inr (inr (d, f, k))) =
+    inl (e ∙ ap BadWords fault ∙ sym f, h.written ∙ ap words_line fault ∙ sym k.written)
+both o p files input words first second one other told same (inr (inl (fault, e, h))) (inr (inr (cause, f, k))) = absurd (one-or-none words k.job fault k.asked h.given)
+both o p files input words first second one other told same (inr (inr (cause, e, h))) (inl k) = absurd (not-one p o files input words second cause other one same told k h)
+both o p files input words first second one other told same (inr (inr (cause, e, h))) (inr (inl (fault, f, k))) = absurd (one-or-none words h.job fault h.asked k.given)
+both o p files input words first second one other told same (inr (inr (c, e, h))) (inr (inr (d, f, k))) =
     let refusal = both-refused o p files input words c d one other told same h k in
-    (e ∙ refusal.0 ∙ sym f, refusal.1)
+    inl (e ∙ refusal.0 ∙ sym f, refusal.1)
+
+pub one-decided-output : OneDecidedOutput
+one-decided-output o p files input words first second one other told same c d h k =
+    both o p files input words first second one other told same (ending o words first one c h) (ending p words second other d k)
 
 pub one-output : OneOutput
 one-output o p files input words first second one other told same exact c d h k =
-    both o p files input words first second one other told same exact (ending o words first one c h) (ending p words second other d k)
+    by (one-decided-output o p files input words first second one other told same c d h k)
+  where
+    by : IsSame first second one other ⊎ AgreeOutputs o p words first second one other → IsSame first second one other
+    by (inl is) = is
+    by (inr a) = exact-runs o p files input words first second one other told same exact a

@@ -1,13 +1,13 @@
 -- What the definitions of a run say by themselves, as laws.
-use Rattle.std.specs.Prelude.{◌≡◌, ◌≢◌, ℕ, ◌<◌, ◌^◌, ◌-◌, Option, Some, Result, Ok, Err, List, ◌++◌, count_by, length, ◌≤◌, ⊤}
+use Rattle.std.specs.Prelude.{◌≡◌, ◌≢◌, ◌⊎◌, ℕ, ◌<◌, ◌^◌, ◌-◌, Option, Some, Result, Ok, Err, List, ◌++◌, [], ◌∷◌, count_by, length, ◌≤◌, ⊤}
 use Rattle.st_outside.specs.Entries.{Entries}
-use Rattle.st_answers.specs.Laws.{AreTold, IsExact}
+use Rattle.st_answers.specs.Laws.{AreTold, HasSineThereOrBack, IsExact}
 use Rattle.st_answers.specs.Ready.{IsReady}
 use Rattle.st_batch.specs.declared.answer.Answer.{Answer}
 use Rattle.st_batch.specs.declared.answer.Answer.TheVariants.{Refused}
 use Rattle.st_batch.specs.declared.kernel_fault.KernelFault.{KernelFault}
 use Rattle.st_batch.specs.declared.kernel_fault.KernelFault.TheVariants as kernel
-use Rattle.st_batch.specs.declared.fault.LineFault.TheVariants.{FileFault}
+use Rattle.st_batch.specs.declared.fault.LineFault.TheVariants.{FileFault, Undecided}
 use Rattle.st_words.specs.declared.job.Job.{Job}
 use Rattle.st_batch.specs.declared.status.Status.{Status}
 use Rattle.st_batch.specs.declared.status.Status.TheVariants.{Done, SomeRefused, BadWords, BadSetup, InputTooLong}
@@ -15,7 +15,7 @@ use Rattle.st_batch.specs.Causes.{is_file_fault}
 use Rattle.st_batch.specs.Limits.{most_input_bytes}
 use Rattle.st_batch.specs.Lines.{AreLines}
 use Rattle.st_batch.specs.Load.{LoadGives}
-use Rattle.st_batch.specs.Outcome.{HaveEnded, Outcome, Outside, over}
+use Rattle.st_batch.specs.Outcome.{AllAnswered, HaveEnded, Outcome, Outside, over}
 use Rattle.st_batch.specs.Session.{MayAnswer, RunsTo}
 use Rattle.st_batch.specs.Setting.{Loaded, Setting, State}
 use Rattle.st_batch.specs.Setup.{SetupGives}
@@ -36,6 +36,20 @@ pub record IsTold (o : Outside) (files : Entries) (input : List ℕ) : Type 0 wh
   pub input_told : o.input.left ≡ Some input
   pub no_fault : o.files_after.counts.faults ≡ o.files.counts.faults
   pub not_last : o.files.counts.faults < 2 ^ 64 - 1
+
+-- an answer that isn't left undecided
+abbrev pub IsDecided : Answer → Type 0
+IsDecided answer = answer ≢ Refused Undecided
+
+-- two answers are one where neither is left undecided
+abbrev pub Agree : Answer → Answer → Type 0
+Agree answer other = IsDecided answer → IsDecided other → answer ≡ other
+
+-- as many answers as others, each of which agrees with that in its place
+abbrev pub AgreeEach : List Answer → List Answer → Type 0
+AgreeEach [] [] = ⊤
+AgreeEach (answer ∷ answers) (other ∷ others) = Agree answer other × AgreeEach answers others
+AgreeEach answers others = ⊥
 
 -- answers to some first of these lines lead from a loaded list to another
 pub record IsReached (s : Setting) (loaded : Loaded) (lines : List (List ℕ)) (reached : Loaded) : Type 0 where
@@ -59,6 +73,26 @@ IsExactRun o words =
     (job : Job) (session : State) (lines : List (List ℕ)) → WordsAsk words (Ok job) → SetupGives (over o job) (Ok session)
     → AreLines session.job.work session.loaded o.input.left lines → AreAllExact (over o session.job) session.loaded lines
 
+-- all lines were answered twice, with answers that agree
+pub record AgreeOutputs (o p : Outside) (words : List (List ℕ)) (first second : Status) (one other : List ℕ) : Type 0 where
+  pub job : Job
+  pub session : State
+  pub asked : WordsAsk words (Ok job)
+  pub setup : SetupGives (over o job) (Ok session)
+  pub run : AllAnswered o session.job session.loaded first one
+  pub again : AllAnswered p session.job session.loaded second other
+  pub lines : run.lines ≡ again.lines
+  pub agree : AgreeEach run.answers again.answers
+
+-- Where the files had no fault, two whole outputs that the words, the files and the input allow are one, with one status, or their
+-- answers agree: they are one wherever neither is left undecided.
+abbrev pub OneDecidedOutput : Type 0
+OneDecidedOutput =
+    (o p : Outside) (files : Entries) (input : List ℕ) (words : List (List ℕ)) (first second : Status) (one other : List ℕ)
+    → IsTold o files input → IsTold p files input → IsComplete first → IsComplete second
+    → Outcome o words first one → Outcome p words second other
+    → ((first ≡ second) × (one ≡ other)) ⊎ AgreeOutputs o p words first second one other
+
 -- Where the files had no fault, and no sine stands on the job's way, the words, the files and the input allow at most one whole
 -- output, with one status, whatever the counts are.
 abbrev pub OneOutput : Type 0
@@ -74,8 +108,33 @@ EveryLineHasAnswer =
     (s : Setting) (loaded : Loaded) (line : List ℕ) → IsReady s.job → AreTold s.job loaded
     → (answer : Answer) × ((after : Loaded) × MayAnswer s loaded line answer after × (answer ≢ Refused FileFault))
 
--- By files that tell their bytes, and a loaded list by which no sine stands on the way of a job that is ready, a line has at most
--- one answer, with one loaded list after it, that names no fault of the files.
+-- By files that tell their bytes, and whatever stands on the way of a job that is ready, two answers of a line that name no fault
+-- of the files agree: at most one text may be printed. The loaded list after the line is one, left undecided or not.
+abbrev pub OneDecidedAnswer : Type 0
+OneDecidedAnswer =
+    (s : Setting) (files : Entries) (loaded after next : Loaded) (line : List ℕ) (answer other : Answer)
+    → s.files ≡ Some files → IsReady s.job → MayAnswer s loaded line answer after → MayAnswer s loaded line other next
+    → answer ≢ Refused FileFault → other ≢ Refused FileFault → Agree answer other × (after ≡ next)
+
+-- So do two lists of answers to some lines.
+abbrev pub OneDecidedRun : Type 0
+OneDecidedRun =
+    (s : Setting) (files : Entries) (loaded after next : Loaded) (lines : List (List ℕ)) (answers others : List Answer)
+    → s.files ≡ Some files → IsReady s.job → RunsTo s loaded lines answers after → RunsTo s loaded lines others next
+    → count_by is_file_fault answers ≡ 0 → count_by is_file_fault others ≡ 0 → AgreeEach answers others × (after ≡ next)
+
+-- Where a line is left undecided a sine stands on the job's way.
+abbrev pub UndecidedHasASine : Type 0
+UndecidedHasASine =
+    (s : Setting) (loaded after : Loaded) (line : List ℕ) → MayAnswer s loaded line (Refused Undecided) after → HasSineThereOrBack s.job loaded
+
+-- By a loaded list by which no sine stands there no line is left undecided.
+abbrev pub ExactIsDecided : Type 0
+ExactIsDecided =
+    (s : Setting) (loaded after : Loaded) (line : List ℕ) (answer : Answer) → IsExact s.job loaded → MayAnswer s loaded line answer after → IsDecided answer
+
+-- So by files that tell their bytes, and such a loaded list, a line has at most one answer, with one loaded list after it, that
+-- names no fault of the files.
 abbrev pub OneAnswer : Type 0
 OneAnswer =
     (s : Setting) (files : Entries) (loaded after next : Loaded) (line : List ℕ) (answer other : Answer)

@@ -1,6 +1,6 @@
 //! Laws of the definitions by which `run` is told. Each function does nothing; its contract is the law.
 
-ghost use Rattle.st_batch.specs.Laws.{EveryBeginningGoesOn, EveryLineHasAnswer, EveryLoadingGives, GoodRunIsAnswered, OneAnswer, OneEnding, OneLoading, OneOutput};
+ghost use Rattle.st_batch.specs.Laws.{EveryBeginningGoesOn, EveryLineHasAnswer, EveryLoadingGives, ExactIsDecided, GoodRunIsAnswered, OneAnswer, OneDecidedAnswer, OneDecidedOutput, OneDecidedRun, OneEnding, OneLoading, OneOutput, UndecidedHasASine};
 
 /// Every loading gives a loaded list, or a refusal that names no fault of the files.
 pub fn every_loading_gives()
@@ -32,6 +32,28 @@ pub fn every_line_has_an_answer()
     ensures { EveryLineHasAnswer }
 {}
 
+/// Where the files tell their bytes a line of a job that is ready has at most one answer, with a sine on the job's way or not,
+/// that names no fault of the files and isn't left undecided: at most one text may be printed. The loaded list after the line
+/// is one, left undecided or not.
+pub fn one_decided_answer()
+    ensures { OneDecidedAnswer }
+{}
+
+/// So two lists of answers to some lines agree wherever neither is left undecided, and leave one loaded list.
+pub fn one_decided_run()
+    ensures { OneDecidedRun }
+{}
+
+/// A line is left undecided only where a sine stands on the job's way there or, where that is asked for, on its way back.
+pub fn undecided_has_a_sine()
+    ensures { UndecidedHasASine }
+{}
+
+/// By a loaded list by which no sine stands on the job's way no line is left undecided.
+pub fn exact_is_decided()
+    ensures { ExactIsDecided }
+{}
+
 /// Where the files tell their bytes a line has at most one answer, with one loaded list after it, that names no fault of
 /// the files, for a job that is ready and by a loaded list by which no sine stands on the job's way, as none does between
 /// UTC, TAI and TT.
@@ -44,6 +66,12 @@ pub fn one_answer()
 /// the job asks for or refuses one.
 pub fn every_beginning_goes_on()
     ensures { EveryBeginningGoesOn }
+{}
+
+/// Where the files and the input tell their bytes and the files had no fault, two whole outputs are one, or they are of answers
+/// that agree wherever neither is left undecided.
+pub fn one_decided_output()
+    ensures { OneDecidedOutput }
 {}
 
 /// Where the files and the input tell their bytes and the files had no fault there is at most one whole output, so that

@@ -1,4 +1,4 @@
-use Rattle.st_batch.proofs.LineLaws.{one-answer}
+use Rattle.st_batch.proofs.OneLine.{one-answer}
 use Rattle.st_batch.proofs.laws.one_answer.Goals as goal
 
 pub returns : goal.returns
