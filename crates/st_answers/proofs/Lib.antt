@@ -1,6 +1,8 @@
 pub mod AnswerLaws
 pub mod Answered
+pub mod BackTables
 pub mod Carried
+pub mod FixedRead
 pub mod Found
 pub mod Known
 pub mod Moved
@@ -9,8 +11,12 @@ pub mod OneAnswer
 pub mod OneGiven
 pub mod OneTables
 pub mod Printed
+pub mod Returned
+pub mod Routed
+pub mod SecondsAlone
 pub mod Settled
 pub mod Sides
 pub mod Sourced
 pub mod Timed
 pub mod Undecided
+pub mod WayBack

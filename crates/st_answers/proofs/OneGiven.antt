@@ -86,7 +86,7 @@ clock-time-one tables form text x y clocks (c, read, has, ticks, time) (d, other
     let R : Result ℕ TimeFault → Type 0 = λ z. TickTimeGives c z y in
     tick-time-one c read x y (clocks c has) time (subst R (tick-one c form text other read (subst P same ticks2) ticks) (subst Q same time2))
 
-source-one : (form : FromKind) (system : System) (tables : Tables) (text : List ℕ) (x y : Result Fraction TimeFault) → HasClocks tables
+pub source-one : (form : FromKind) (system : System) (tables : Tables) (text : List ℕ) (x y : Result Fraction TimeFault) → HasClocks tables
     → SourceGives form system tables text x → SourceGives form system tables text y → x ≡ y
 source-one (from.Time form) system tables text (Ok r) (Ok s) clocks (u, gu, ru) (v, gv, sv) =
     ap Ok (ru ∙ ap units (ok-same u v (instant-one system form tables.leaps text (Ok u) (Ok v) gu gv)) ∙ sym sv)
@@ -118,13 +118,13 @@ scale-one Tt tables a b g h = g ∙ sym h
 scale-one Tdb tables a b g h = g ∙ sym h
 scale-one Sclk tables a b (c, has, is) (d, also, other) = is ∙ ap (λ (k : TheClock). k.scale) (some-is c d (sym has ∙ also)) ∙ sym other
 
-route-one : (constants : Option Deltet) (source target : System) (tables : Tables) (x y : Route) → IsRouteBy constants source target tables x
+pub route-one : (constants : Option Deltet) (source target : System) (tables : Tables) (x y : Route) → IsRouteBy constants source target tables x
     → IsRouteBy constants source target tables y → x ≡ y
 route-one None source target tables x y g h = g ∙ sym h
 route-one (Some k) source target tables x y (a, b, from-a, to-b, is) (c, d, from-c, to-d, other) =
     is ∙ ap (λ (s : Scale). Scales k s b) (scale-one source tables a c from-a from-c) ∙ ap (λ (s : Scale). Scales k c s) (scale-one target tables b d to-b to-d) ∙ sym other
 
-target-one : (shape : ToKind) (tables : Tables) (x y : Target) → IsTargetOf shape tables x → IsTargetOf shape tables y → x ≡ y
+pub target-one : (shape : ToKind) (tables : Tables) (x y : Target) → IsTargetOf shape tables x → IsTargetOf shape tables y → x ≡ y
 target-one (to.Pictured picture) tables x y g h = g ∙ sym h
 target-one to.Clock tables x y (c, has, is) (d, also, other) = is ∙ ap (λ (k : TheClock). by_clock k tick.Clock) (some-is c d (sym has ∙ also)) ∙ sym other
 target-one to.Ticks tables x y (c, has, is) (d, also, other) = is ∙ ap (λ (k : TheClock). by_clock k tick.Ticks) (some-is c d (sym has ∙ also)) ∙ sym other

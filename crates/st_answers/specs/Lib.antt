@@ -4,4 +4,5 @@ pub mod AskedSteps
 pub mod FaultSteps
 pub mod Laws
 pub mod Ready
+pub mod Returns
 pub mod Sides

@@ -1,6 +1,7 @@
 //! Laws of the answers. Each function does nothing; its contract is the law.
 
 ghost use Rattle.st_answers.specs.Laws.{EachTextHasAnswer, ExactIsDecided, OneDecidedAnswer, OneExactAnswer, UndecidedHasASine};
+ghost use Rattle.st_answers.specs.Returns.{CoveredTickReturns, TdbTickReturns, WayBackGivesTick};
 
 /// Where its tables are given or refused every text has an answer.
 pub fn each_text_has_answer()
@@ -26,4 +27,14 @@ pub fn exact_is_decided()
 /// Where no sine stands on the way a text has one answer.
 pub fn one_exact_answer()
     ensures { OneExactAnswer }
+{}
+
+/// A covered tick whose time is printed in TDB comes back from the printed text, where the tick lasts at least four units of
+/// the last printed place and the number lies in the range of times: the way back gives the tick's canonical spelling and
+/// nothing else; the answers are the text with that spelling, and UNDECIDED where the way there may be; and of a clock that is
+/// kept in TDB the first alone.
+pub fn covered_tick_returns()
+    ensures way_back { WayBackGivesTick }
+    ensures answers { CoveredTickReturns }
+    ensures tdb { TdbTickReturns }
 {}
