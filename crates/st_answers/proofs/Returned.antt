@@ -43,7 +43,7 @@ use Rattle.st_words.specs.declared.job.ToKind.{ToKind}
 use Rattle.st_words.specs.declared.job.ToKind.TheVariants as to
 use Rattle.st_answers.specs.Answer.{AnswerBy, AnswerGives, BackGives, ClockTimeGives, ConvertGives, ForwardGives, GivesBy, HasGiven, IsRouteBy, IsRouteOf, IsTargetOf, SourceGives, TickTimeGives, back_job, source_form, there_and_back}
 use Rattle.st_answers.specs.Asked.{AreTables, Tables}
-use Rattle.st_answers.specs.Returns.{CoveredTickReturns, IsLeftUndecided, IsReturned, ReadsCovered, TdbTickReturns, TellsInRange, WayBackGivesTick}
+use Rattle.st_answers.specs.Returns.{CoveredTickReturns, CanBeUndecided, IsReturned, ReadsCovered, TdbTickReturns, TellsInRange, WayBackGivesTick}
 use Rattle.st_answers.specs.Sides.{is_clock, needs_constants}
 use Rattle.st_answers.specs.declared.fault.AnswerFault.{AnswerFault}
 use Rattle.st_answers.specs.declared.fault.AnswerFault.TheVariants.{Table, Time, OutOfMemory}
@@ -224,25 +224,28 @@ module _ (job : Job) (loaded : Loaded) (text : List ℕ) (clock : TheClock) (k p
       ok-same a b (one_answer known ahead t.time target (Ok a) (Ok b) (Tdb, aimed-at.0, aimed-at.1) (source-near job.form job.from tables text t.time t.stands_for).0 t.prints gives)
 
   -- where one is printed there, nothing else may come than UNDECIDED
-  left-undecided : (there : List ℕ) (f : AnswerFault) → ForwardGives job loaded text (Ok there) → ForwardGives job loaded text (Err f) → IsLeftUndecided job loaded text (Err f)
+  left-undecided : (there : List ℕ) (f : AnswerFault) → ForwardGives job loaded text (Ok there) → ForwardGives job loaded text (Err f)
+      → (f ≡ Time faults.Undecided) × CanBeUndecided job loaded text
   left-undecided there (Table f) g refused = absurd (never-both job loaded f tables refused h.given)
   left-undecided there OutOfMemory g refused = absurd refused
   left-undecided there (Time f) g (some, gives) =
       let t = is-there there g in
       elim (one-of ahead t.time target (Err f) (routed job tables text t.time ahead target (Err f) clocks t.stands_for is-route is-target (converts (Err f) gives))) [
         | inl p ↦ absurd (none p.0 p.1 p.2)
-        | inr (inl u) ↦ record {
-          tables = tables;
-          given = h.given;
-          time = t.time;
-          route = ahead;
-          target = target;
-          stands_for = t.stands_for;
-          by_route = is-route;
-          by_target = is-target;
-          undecided = u.0;
-          is = ap (λ x. Err (Time x)) (err-same f faults.Undecided u.1);
-        }
+        | inr (inl u) ↦ (
+          ap Time (err-same f faults.Undecided u.1),
+          record {
+            tables = tables;
+            given = h.given;
+            time = t.time;
+            route = ahead;
+            target = target;
+            stands_for = t.stands_for;
+            by_route = is-route;
+            by_target = is-target;
+            undecided = u.0;
+          },
+        )
         | inr (inr e) ↦ absurd (err-not f some e)
       ]
     where
@@ -310,7 +313,7 @@ module _ (job : Job) (loaded : Loaded) (text : List ℕ) (clock : TheClock) (k p
 
     -- and those of there and back
     abbrev Answers : Result (List ℕ) AnswerFault → Type 0
-    Answers x = IsReturned clock k there x ⊎ IsLeftUndecided job loaded text x
+    Answers x = IsReturned clock k there x ⊎ ((x ≡ Err (Time faults.Undecided)) × CanBeUndecided job loaded text)
 
     moved-back : (other : List ℕ) (x : Result (List ℕ) AnswerFault) → ForwardGives job loaded text (Ok other) → ForwardGives (back_job job) loaded other x → Spelled x
     moved-back other x f gives = back-to x (subst (λ (t : List ℕ). ForwardGives (back_job job) loaded t x) (there-one other there f g) gives)
@@ -320,18 +323,18 @@ module _ (job : Job) (loaded : Loaded) (text : List ℕ) (clock : TheClock) (k p
         let s = moved-back other (Ok back) f gives in
         let spelled : back ≡ s.0 = ok-is back s.0 s.2 in
         inl (s.0, s.1, ap Ok (is ∙ ap (λ (t : List ℕ). there_and_back t back) (there-one other there f g) ∙ ap (λ (t : List ℕ). there_and_back there t) spelled))
-    answers-to (Err f) (inl refused) = inr (left-undecided there f g refused)
+    answers-to (Err f) (inl refused) = let u = left-undecided there f g refused in inr (ap Err u.0, u.1)
     answers-to (Err f) (inr (other, there-is, gives)) = let s = moved-back other (Err f) there-is gives in absurd (ok-is-not s.0 f (sym s.2))
 
     answers-from : (x : Result (List ℕ) AnswerFault) → Answers x → BackGives job loaded text x
     answers-from x (inl (back, canonical, e)) =
         let P : Result (List ℕ) AnswerFault → Type 0 = λ z. BackGives job loaded text z in
         subst P (sym e) (there, back, g, back-from (Ok back) (back, canonical, refl), refl)
-    answers-from x (inr u) =
+    answers-from x (inr (e, u)) =
         let P : Result (List ℕ) AnswerFault → Type 0 = λ z. BackGives job loaded text z in
         let Q : Bool → Type 0 = λ b. GivesBy b job u.tables text (Err faults.Undecided) in
         let converted : ConvertGives job u.tables text (Err faults.Undecided) = inr (u.time, u.route, u.target, u.stands_for, u.by_route, u.by_target, u.undecided) in
-        subst P (sym u.is) (inl (undecided-not, (u.tables, u.given, subst Q (sym (one-clock job way.from way.to)) converted)))
+        subst P (sym e) (inl (undecided-not, (u.tables, u.given, subst Q (sym (one-clock job way.from way.to)) converted)))
 
     answers : (x : Result (List ℕ) AnswerFault) → AnswerGives job loaded text x ↔ Answers x
     answers x = (
@@ -340,8 +343,8 @@ module _ (job : Job) (loaded : Loaded) (text : List ℕ) (clock : TheClock) (k p
     )
 
   -- where the clock is kept in TDB, no sine stands on the way there
-  no-sine : (x : Result (List ℕ) AnswerFault) → clock.scale ≡ scales.Tdb → IsLeftUndecided job loaded text x → ⊥
-  no-sine x kept u = by u.tables.constants u.route (subst (λ (s : System). IsRouteBy u.tables.constants s Tdb u.tables u.route) way.from (subst (λ (s : System). IsRouteBy u.tables.constants job.from s u.tables u.route) way.to u.by_route)) u.undecided.sine
+  no-sine : clock.scale ≡ scales.Tdb → CanBeUndecided job loaded text → ⊥
+  no-sine kept u = by u.tables.constants u.route (subst (λ (s : System). IsRouteBy u.tables.constants s Tdb u.tables u.route) way.from (subst (λ (s : System). IsRouteBy u.tables.constants job.from s u.tables u.route) way.to u.by_route)) u.undecided.sine
     where
       by : (o : Option Deltet) (route : Route) → IsRouteBy o Sclk Tdb u.tables route → HasSineOnIt route → ⊥
       by None route is sine = subst HasSineOnIt is sine
@@ -363,7 +366,7 @@ tdb-tick-returns job loaded text there clock k places x h kept g range =
     let both = answers job loaded text clock k places h there g range x in (
       λ a. elim (both.0 a) [
         | inl r ↦ r
-        | inr u ↦ absurd (no-sine job loaded text clock k places h x kept u)
+        | inr u ↦ absurd (no-sine job loaded text clock k places h kept u.1)
       ],
       λ r. both.1 (inl r),
     )

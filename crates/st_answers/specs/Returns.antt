@@ -58,8 +58,8 @@ abbrev pub IsReturned : Clock → ℕ → List ℕ → Result (List ℕ) AnswerF
 IsReturned clock k there answer =
     (back : List ℕ) × IsCanonical clock.face k back × (answer ≡ Ok (there_and_back there back))
 
--- the answer is UNDECIDED: a sine stands on the way there, and the time that the text stands for may be left undecided
-pub record IsLeftUndecided (job : Job) (loaded : Loaded) (text : List ℕ) (answer : Result (List ℕ) AnswerFault) : Type 0 where
+-- The time that the text stands for may be left undecided on the way there, and so a sine stands on it.
+pub record CanBeUndecided (job : Job) (loaded : Loaded) (text : List ℕ) : Type 0 where
   pub tables : Tables
   pub given : AreTables job loaded tables
   pub time : Fraction
@@ -69,7 +69,6 @@ pub record IsLeftUndecided (job : Job) (loaded : Loaded) (text : List ℕ) (answ
   pub by_route : IsRouteOf job tables route
   pub by_target : IsTargetOf job.shape tables target
   pub undecided : MayBeUndecided route time target
-  pub is : answer ≡ Err (Time Undecided)
 
 -- The way back of a printed time is never UNDECIDED: it gives the canonical spelling of the tick that was read, and nothing else.
 abbrev pub WayBackGivesTick : Type 0
@@ -83,7 +82,7 @@ abbrev pub CoveredTickReturns : Type 0
 CoveredTickReturns =
     (job : Job) (loaded : Loaded) (text there : List ℕ) (clock : Clock) (k places : ℕ) (answer : Result (List ℕ) AnswerFault)
     → ReadsCovered job loaded text clock k places → ForwardGives job loaded text (Ok there) → TellsInRange places there
-    → AnswerGives job loaded text answer ↔ (IsReturned clock k there answer ⊎ IsLeftUndecided job loaded text answer)
+    → AnswerGives job loaded text answer ↔ (IsReturned clock k there answer ⊎ ((answer ≡ Err (Time Undecided)) × CanBeUndecided job loaded text))
 
 -- Of a clock that is kept in TDB the first is the answer.
 abbrev pub TdbTickReturns : Type 0

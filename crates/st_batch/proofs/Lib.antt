@@ -1,3 +1,4 @@
+pub mod ClockLines
 pub mod CommandLaws
 pub mod CutLaws
 pub mod Examples

@@ -8,6 +8,7 @@ pub mod Load
 pub mod LoadSteps
 pub mod Outcome
 pub mod OutputSteps
+pub mod Returns
 pub mod Session
 pub mod Setting
 pub mod Setup

@@ -1,6 +1,7 @@
 //! Laws of the definitions by which `run` is told. Each function does nothing; its contract is the law.
 
 ghost use Rattle.st_batch.specs.Laws.{EveryBeginningGoesOn, EveryLineHasAnswer, EveryLoadingGives, ExactIsDecided, GoodRunIsAnswered, OneAnswer, OneDecidedAnswer, OneDecidedOutput, OneDecidedRun, OneEnding, OneLoading, OneOutput, UndecidedHasASine};
+ghost use Rattle.st_batch.specs.Returns.{CoveredLineReturns, TdbLineReturns};
 
 /// Every loading gives a loaded list, or a refusal that names no fault of the files.
 pub fn every_loading_gives()
@@ -79,4 +80,12 @@ pub fn one_decided_output()
 /// job's way by each loaded list that answers to some first lines lead to.
 pub fn one_output()
     ensures { OneOutput }
+{}
+
+/// A clock string comes back behind its time: a line whose text is read to a covered tick that lasts at least four units of the
+/// last printed place is answered by the printed time and the tick's canonical spelling, or UNDECIDED where the way there can
+/// be, where that time is a number in the range; and of a clock that is kept in TDB by the first alone.
+pub fn covered_line_returns()
+    ensures answers { CoveredLineReturns }
+    ensures tdb { TdbLineReturns }
 {}
