@@ -7,3 +7,4 @@ pub mod NumberLaws
 pub mod RuleLaws
 pub mod TableLaws
 pub mod ThreeLaws
+pub mod FoundLaws

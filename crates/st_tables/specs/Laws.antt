@@ -1,5 +1,5 @@
 -- Laws of the tables that loaded kernels give, each the contract of an empty function of `laws`.
-use Rattle.std.specs.Prelude.{◌≡◌, ℕ, List, map, Result}
+use Rattle.std.specs.Prelude.{◌≡◌, ◌≢◌, ℕ, List, map, Result, Err}
 use Rattle.std.specs.List.{AllByRecursion}
 use Rattle.st_kernel_text.specs.declared.value.Value.TheVariants.{Number}
 use Rattle.st_leaps.specs.declared.pair.LeapPair.{LeapPair}
@@ -8,7 +8,7 @@ use Rattle.st_scales.specs.declared.deltet.Deltet.{Deltet}
 use Rattle.st_ticks.specs.declared.variable.Var.{Var}
 use Rattle.st_clock.specs.Clock.{Clock}
 use Rattle.st_tables.specs.declared.fault.TableFault.{TableFault}
-use Rattle.st_tables.specs.declared.fault.TableFault.TheVariants.{WrongKind}
+use Rattle.st_tables.specs.declared.fault.TableFault.TheVariants.{WrongKind, OutOfMemory}
 use Rattle.st_tables.specs.Names.{var_name}
 use Rattle.st_tables.specs.Tables.{LeapsGive, ConstantsGive, ClockGives, Agree}
 use Rattle.st_tables.specs.Variables.{Loaded, leap_vars, constant_vars, clock_vars, numbers_of, Keeps}
@@ -22,6 +22,17 @@ ConstantsAreOne = (loaded : Loaded) (a b : Result Deltet TableFault) → Constan
 
 abbrev pub ClockIsOne : Type 0
 ClockIsOne = (n : ℕ) (loaded : Loaded) (a b : Result Clock TableFault) → ClockGives n loaded a → ClockGives n loaded b → Agree a b
+
+-- Whatever kernels are loaded, they give each table or refuse it for a first cause, which isn't want of memory.
+abbrev pub LeapsAreFound : Type 0
+LeapsAreFound =
+    (loaded : Loaded) → (answer : Result (List LeapPair) TableFault) × LeapsGive loaded answer × (answer ≢ Err OutOfMemory)
+
+abbrev pub ConstantsAreFound : Type 0
+ConstantsAreFound = (loaded : Loaded) → (answer : Result Deltet TableFault) × ConstantsGive loaded answer × (answer ≢ Err OutOfMemory)
+
+abbrev pub ClockIsFound : Type 0
+ClockIsFound = (n : ℕ) (loaded : Loaded) → (answer : Result Clock TableFault) × ClockGives n loaded answer × (answer ≢ Err OutOfMemory)
 
 -- two loaded lists give these variables the same values
 pub record IsAlike (one other : Loaded) (var : Var) : Type 0 where
