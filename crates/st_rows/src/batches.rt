@@ -166,7 +166,7 @@ fn sessions(rt: HostRuntime) -> Result<(), Fail> {
 }
 
 /// Appends a text as a line.
-fn add_line(lines: &mut Vec<u8>, text: &str) -> Result<(), Fail> {
+pub fn add_line(lines: &mut Vec<u8>, text: &str) -> Result<(), Fail> {
     lines.extend_from_slice(text.as_bytes())?;
     lines.push(b'\n')?;
     Ok(())
@@ -199,7 +199,7 @@ fn ends_of_lines(rt: HostRuntime) -> Result<(), Fail> {
 }
 
 /// A text, so many times.
-fn repeated(alloc: Global, text: &str, times: usize) -> Result<Vec<u8>, Fail> {
+pub fn repeated(alloc: Global, text: &str, times: usize) -> Result<Vec<u8>, Fail> {
     let mut lines = Vec::new(alloc);
     for _ in 0..times {
         lines.extend_from_slice(text.as_bytes())?;
@@ -262,15 +262,13 @@ fn a_thousand_kernels(rt: HostRuntime) -> Result<(), Fail> {
     Ok(())
 }
 
-/// A kernel that gives a variable this many thousand values.
-fn thousands_of_values(alloc: Global, count: usize) -> Result<Vec<u8>, Fail> {
+/// A kernel that gives a variable a million values, 400 to a line.
+pub fn million(alloc: Global) -> Result<Vec<u8>, Fail> {
     let mut kernel = repeated(alloc, "\\begindata\nX = (\n", 1)?;
-    let mut line = repeated(alloc, "1 ", 250)?;
+    let mut line = repeated(alloc, "1 ", 400)?;
     line.push(b'\n')?;
-    for _ in 0..count {
-        for _ in 0..4 {
-            kernel.extend_from_slice(line.as_slice())?;
-        }
+    for _ in 0..2500 {
+        kernel.extend_from_slice(line.as_slice())?;
     }
     kernel.extend_from_slice(b")\n")?;
     Ok(kernel)
@@ -286,7 +284,7 @@ fn two_million_values(rt: HostRuntime) -> Result<(), Fail> {
     let wanted = b"unloaded\nloaded\nloaded\nrefused TOO_MANY_VALUES\nloaded\n";
     for outside in SAFE_AND_SHORT {
         let mut map = folder(alloc)?;
-        map.put(b"million.ker", thousands_of_values(alloc, 1000)?)?;
+        map.put(b"million.ker", million(alloc)?)?;
         let (status, output) = run_row(alloc, words.as_slice(), map, lines, outside)?;
         assert_eq!(rt; status, Status::SomeRefused);
         assert_eq!(rt; output.as_slice(), wanted.as_slice());

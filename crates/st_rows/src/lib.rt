@@ -1,4 +1,5 @@
-//! Worked rows, run through `st_batch::run` over the outside in memory, and a session by its own calls.
+//! Worked rows and hostile ones, run through `st_batch::run` over the outside in memory, and sessions and kernels by
+//! their own calls.
 //!
 //! Each table reads as a document: the words or the lines, and what the program writes for them.
 #![tactic(auto)]
@@ -13,6 +14,8 @@ mod conversions;
 mod days;
 #[cfg(test)]
 mod files;
+#[cfg(test)]
+mod outside;
 #[cfg(test)]
 mod refusals;
 #[cfg(test)]

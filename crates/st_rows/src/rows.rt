@@ -9,13 +9,15 @@ use std::alloc::Global;
 use std::test::Fail;
 
 /// How the outside behaves: the calls of the files, of the input and of the output that fail, counted from 1, where 0
-/// says that none does, and how many bytes a read of a file gives at most.
+/// says that none does; how many bytes a read of a file gives at most; and how many a read of the input gives, and a
+/// write takes, at most.
 #[derive(Clone, Copy)]
 pub struct Outside {
     pub files: u32,
     pub input: u32,
     pub output: u32,
     pub most: usize,
+    pub streams: usize,
 }
 
 /// Nothing fails.
@@ -24,6 +26,7 @@ pub const SAFE: Outside = Outside {
     input: 0,
     output: 0,
     most: usize::MAX,
+    streams: usize::MAX,
 };
 
 /// Nothing fails, and the files give one byte at a time.
@@ -32,10 +35,20 @@ pub const SHORT: Outside = Outside {
     input: 0,
     output: 0,
     most: 1,
+    streams: usize::MAX,
 };
 
 /// What a row gives that meets no fault, it gives with each of these.
 pub const SAFE_AND_SHORT: [Outside; 2] = [SAFE, SHORT];
+
+/// Nothing fails, and no call gives or takes more bytes than this.
+pub fn in_pieces(most: usize) -> Outside {
+    Outside {
+        most,
+        streams: most,
+        ..SAFE
+    }
+}
 
 /// How a run of these words ends over these files and this input, and what it writes.
 pub fn run_row(
@@ -47,9 +60,11 @@ pub fn run_row(
 ) -> Result<(Status, Vec<u8>), Fail> {
     let failing_files = Vec::from_slice(alloc, &[outside.files])?;
     let mut files = MemFiles::short(files, failing_files, outside.most.max(1));
+    let most = outside.streams.max(1);
     let failing_reads = Vec::from_slice(alloc, &[outside.input])?;
-    let mut input = MemSource::new(Vec::from_slice(alloc, input)?, failing_reads);
-    let mut out = MemSink::new(alloc, Vec::from_slice(alloc, &[outside.output])?);
+    let mut input = MemSource::short(Vec::from_slice(alloc, input)?, failing_reads, most);
+    let failing_writes = Vec::from_slice(alloc, &[outside.output])?;
+    let mut out = MemSink::short(alloc, failing_writes, most);
     let status = run(alloc, words, &mut files, &mut input, &mut out);
     Ok((status, Vec::from_slice(alloc, out.bytes())?))
 }
