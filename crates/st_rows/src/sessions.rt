@@ -1,10 +1,11 @@
 //! A session by its own calls: its kernels, its answers, and the texts of refusals.
 
+use crate::batches::million;
 use crate::rows::{folder, words};
 use st_batch::{Answer, LineFault, Session, put_refusal};
 use st_decimal::Dec;
 use st_kernel_text::{TextCause, Value};
-use st_outside::SafeFiles;
+use st_outside::{Files, MemFiles, SafeFiles};
 use st_pool::Kind;
 use st_ticks::Var;
 use st_words::read_words;
@@ -12,10 +13,10 @@ use std::alloc::Global;
 use std::test::Fail;
 
 /// The session of a batch from UTC to TAI with this setup file.
-fn open(
+fn open<F: Files>(
     alloc: Global,
     setup: &str,
-    kernels: &mut SafeFiles,
+    kernels: &mut F,
 ) -> Result<Result<Session, LineFault>, Fail> {
     let shape = ["-setup", setup, "-from", "UTC", "-to", "TAI", "-batch"];
     let words = words(alloc, shape.as_slice())?;
@@ -28,7 +29,7 @@ fn open(
 #[test]
 fn opens_a_setup(rt: HostRuntime) -> Result<(), Fail> {
     let alloc = rt.alloc();
-    let mut kernels = SafeFiles::new(folder(alloc)?);
+    let mut kernels = MemFiles::short(folder(alloc)?, Vec::new(alloc), 1);
     let Ok(session) = open(alloc, "values.ker", &mut kernels)? else {
         assert!(rt; false);
         return Ok(());
@@ -54,7 +55,7 @@ fn opens_a_setup(rt: HostRuntime) -> Result<(), Fail> {
 #[test]
 fn opens_a_setup_without_an_assignment(rt: HostRuntime) -> Result<(), Fail> {
     let alloc = rt.alloc();
-    let mut kernels = SafeFiles::new(folder(alloc)?);
+    let mut kernels = MemFiles::short(folder(alloc)?, Vec::new(alloc), 1);
     for setup in ["empty.ker", "plain.ker"] {
         let Ok(session) = open(alloc, setup, &mut kernels)? else {
             assert!(rt; false);
@@ -118,6 +119,29 @@ fn answers_lines(rt: HostRuntime) -> Result<(), Fail> {
         Answer::Text(_) => assert!(rt; false),
         Answer::Refused(fault) => assert_eq!(rt; fault, LineFault::NoVariable(Var::DeltaAt)),
     }
+    Ok(())
+}
+
+#[test]
+fn loads_a_million_values(rt: HostRuntime) -> Result<(), Fail> {
+    let alloc = rt.alloc();
+    let mut map = folder(alloc)?;
+    map.put(b"million.ker", million(alloc)?)?;
+    let mut kernels = SafeFiles::new(map);
+    let Ok(mut session) = open(alloc, "naif.tls", &mut kernels)? else {
+        assert!(rt; false);
+        return Ok(());
+    };
+    match session.answer_line(b"$load million.ker", &mut kernels)? {
+        Answer::Text(text) => assert_eq!(rt; text.as_slice(), b"loaded".as_slice()),
+        Answer::Refused(_) => assert!(rt; false),
+    }
+    // Beside a million and the setup's values a second million has no room.
+    match session.answer_line(b"$load million.ker", &mut kernels)? {
+        Answer::Text(_) => assert!(rt; false),
+        Answer::Refused(fault) => assert_eq!(rt; fault, LineFault::TooManyValues),
+    }
+    assert_eq!(rt; session.pool().count(b"X"), 1_000_000);
     Ok(())
 }
 

@@ -609,3 +609,20 @@ fn clocks(rt: HostRuntime) -> Result<(), Fail> {
 fn refused(rt: HostRuntime) -> Result<(), Fail> {
     run_rows(&rt, rt.alloc(), REFUSED.as_slice(), Status::SomeRefused)
 }
+
+#[test]
+fn a_time_at_the_edge_of_a_digit(rt: HostRuntime) -> Result<(), Fail> {
+    let alloc = rt.alloc();
+    let words = asking(alloc, &["zero.tls", "-from", "TT", "-to", "ET"], "100")?;
+    for outside in SAFE_AND_SHORT {
+        let (status, output) = run_row(alloc, words.as_slice(), folder(alloc)?, b"", outside)?;
+        // Nothing but the digit below it is wrong.
+        let wanted = if status == Status::Done {
+            "100.000000\n"
+        } else {
+            "refused UNDECIDED\n"
+        };
+        assert_eq!(rt; output.as_slice(), wanted.as_bytes());
+    }
+    Ok(())
+}
