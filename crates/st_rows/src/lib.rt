@@ -15,6 +15,8 @@ mod days;
 #[cfg(test)]
 mod files;
 #[cfg(test)]
+mod kernels;
+#[cfg(test)]
 mod outside;
 #[cfg(test)]
 mod pieces;
