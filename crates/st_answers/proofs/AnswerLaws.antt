@@ -1,8 +1,12 @@
 -- The laws of answers.
-use Rattle.st_answers.specs.Laws.{EachTextHasAnswer, ExactIsDecided, OneDecidedAnswer, OneExactAnswer, UndecidedHasASine}
+use Rattle.st_answers.specs.Laws.{EachJobIsTold, EachTextHasAnswer, ExactIsDecided, OneDecidedAnswer, OneExactAnswer, UndecidedHasASine}
 use Rattle.st_answers.proofs.Answered.{each-has-answer}
 use Rattle.st_answers.proofs.OneAnswer.{one-decided, one-exact}
+use Rattle.st_answers.proofs.ToldTables.{job-is-told}
 use Rattle.st_answers.proofs.Undecided.{exact-decided, undecided-sine}
+
+pub each-job-is-told : EachJobIsTold
+each-job-is-told = job-is-told
 
 pub each-text-has-answer : EachTextHasAnswer
 each-text-has-answer = each-has-answer

@@ -1,4 +1,4 @@
--- Where its tables are given or refused every text has an answer.
+-- Every text has an answer.
 use Rattle.std.proofs.Common.{◌≡◌, ◌≢◌, ℕ, ℤ, Bool, true, false, ◌&&◌, inl, inr, Option, Some, None, Result, Ok, Err, List, refl, sym, ap, ◌∙◌, subst}
 use Rattle.std.proofs.lemmas.Bool.{false≢true}
 use Rattle.st_clock.specs.Clock.{Clock as TheClock, IsClock}
@@ -37,6 +37,7 @@ use Rattle.st_answers.proofs.Known.{clock-is, known}
 use Rattle.st_answers.proofs.OneGiven.{HasClocks, err-same, instant-found, ok-err, source-near, target-is, tick-found}
 use Rattle.st_answers.proofs.Sides.{back-ready, from-asks, has-table, is_of_clock, source-kind, target-clock, target-ticks, to-asks}
 use Rattle.st_answers.proofs.Timed.{tick-text-found, tick-timed}
+use Rattle.st_answers.proofs.ToldTables.{job-is-told}
 
 -- there is a clock where one is asked for
 abbrev HasClockFor : Tables → Bool → Type 0
@@ -216,8 +217,10 @@ back-found job loaded text ready behind has returns = let f = forward-found job 
     by (Err f) g = (Err f, inl g)
 
 pub each-has-answer : EachTextHasAnswer
-each-has-answer job loaded text ready told = by job.back refl
+each-has-answer job loaded text ready = by job.back refl
   where
     by : (way : Bool) → job.back ≡ way → (result : Result (List ℕ) AnswerFault) × AnswerBy way job loaded text result
-    by false e = forward-found job loaded text ready told.there
-    by true e = back-found job loaded text ready (back-ready job ready e) told.there (told.back e)
+    by false e = forward-found job loaded text ready (job-is-told job loaded ready)
+    by true e =
+        let behind = back-ready job ready e in
+        back-found job loaded text ready behind (job-is-told job loaded ready) (job-is-told (back_job job) loaded behind)

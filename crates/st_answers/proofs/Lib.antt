@@ -18,5 +18,6 @@ pub mod Settled
 pub mod Sides
 pub mod Sourced
 pub mod Timed
+pub mod ToldTables
 pub mod Undecided
 pub mod WayBack

@@ -16,15 +16,14 @@ use Rattle.st_answers.specs.declared.fault.AnswerFault.TheVariants.{Time}
 abbrev pub HasTables : Job → Loaded → Type 0
 HasTables job loaded = ((tables : Tables) × AreTables job loaded tables) ⊎ ((fault : TableFault) × TablesRefuse job loaded fault)
 
--- the same there and, where that is asked for, back
-pub record AreTold (job : Job) (loaded : Loaded) : Type 0 where
-  pub there : HasTables job loaded
-  pub back : job.back ≡ true → HasTables (back_job job) loaded
+-- For a job that is ready any loaded kernels do.
+abbrev pub EachJobIsTold : Type 0
+EachJobIsTold = (job : Job) (loaded : Loaded) → IsReady job → HasTables job loaded
 
--- Where its tables are given or refused every text has an answer.
+-- So every text has an answer.
 abbrev pub EachTextHasAnswer : Type 0
 EachTextHasAnswer =
-    (job : Job) (loaded : Loaded) (text : List ℕ) → IsReady job → AreTold job loaded
+    (job : Job) (loaded : Loaded) (text : List ℕ) → IsReady job
     → (result : Result (List ℕ) AnswerFault) × AnswerGives job loaded text result
 
 -- an answer that isn't left undecided

@@ -1,9 +1,14 @@
 //! Laws of the answers. Each function does nothing; its contract is the law.
 
-ghost use Rattle.st_answers.specs.Laws.{EachTextHasAnswer, ExactIsDecided, OneDecidedAnswer, OneExactAnswer, UndecidedHasASine};
+ghost use Rattle.st_answers.specs.Laws.{EachJobIsTold, EachTextHasAnswer, ExactIsDecided, OneDecidedAnswer, OneExactAnswer, UndecidedHasASine};
 ghost use Rattle.st_answers.specs.Returns.{CoveredTickReturns, TdbTickReturns, WayBackGivesTick};
 
-/// Where its tables are given or refused every text has an answer.
+/// Any loaded kernels give the tables that a job asks for, or refuse one.
+pub fn each_job_is_told()
+    ensures { EachJobIsTold }
+{}
+
+/// So every text has an answer.
 pub fn each_text_has_answer()
     ensures { EachTextHasAnswer }
 {}

@@ -6,7 +6,7 @@ use Rattle.st_batch.specs.declared.answer.Answer.{Answer}
 use Rattle.st_batch.specs.declared.answer.Answer.TheVariants.{Text, Refused}
 use Rattle.st_batch.specs.declared.fault.LineFault.TheVariants as line
 use Rattle.st_batch.specs.Causes.{is_file_fault}
-use Rattle.st_batch.specs.Laws.{AreAllTold, EveryBeginningGoesOn, IsReached}
+use Rattle.st_batch.specs.Laws.{EveryBeginningGoesOn, IsReached}
 use Rattle.st_batch.specs.Session.{MayAnswer, RunsTo}
 use Rattle.st_batch.specs.Setting.{Loaded, Setting}
 use Rattle.st_batch.proofs.LineLaws.{some-answer}
@@ -41,7 +41,7 @@ counts-none (Refused line.AfterClock) not = refl
 counts-none (Refused line.Undecided) not = refl
 counts-none (Refused line.OutOfMemory) not = refl
 
--- the loaded list itself is reached, and so is what is reached from the one after the first line, or after some lines
+-- the loaded list itself is reached, and so is what is reached from the one after the first line
 pub reached-here : (s : Setting) (loaded : Loaded) (lines : List (List ℕ)) → IsReached s loaded lines loaded
 reached-here s loaded lines = record { first = []; more = lines; answers = []; among = refl; answered = refl }
 
@@ -55,16 +55,6 @@ reached-later s loaded next reached line lines answer may r = record {
   answered = (next, may, r.answered);
 }
 
-reached-behind : (s : Setting) (loaded after reached : Loaded) (lines more : List (List ℕ)) (answers : List Answer) → RunsTo s loaded lines answers after
-    → IsReached s after more reached → IsReached s loaded (lines ++ more) reached
-reached-behind s loaded after reached lines more answers h r = record {
-  first = lines ++ r.first;
-  more = r.more;
-  answers = answers ++ r.answers;
-  among = ap (λ (l : List (List ℕ)). lines ++ l) r.among ∙ sym (append_assoc lines r.first r.more);
-  answered = runs-join s loaded after reached lines r.first answers r.answers h r.answered;
-}
-
 -- lines have answers that name no fault
 record SomeRun (s : Setting) (loaded : Loaded) (lines : List (List ℕ)) : Type 0 where
   answers : List Answer
@@ -72,11 +62,11 @@ record SomeRun (s : Setting) (loaded : Loaded) (lines : List (List ℕ)) : Type 
   runs : RunsTo s loaded lines answers last
   none : count_by is_file_fault answers ≡ 0
 
-some-run : (s : Setting) (loaded : Loaded) (lines : List (List ℕ)) → IsReady s.job → AreAllTold s loaded lines → SomeRun s loaded lines
-some-run s loaded [] ready told = record { answers = []; last = loaded; runs = refl; none = refl }
-some-run s loaded (line ∷ lines) ready told =
-    let a = some-answer s loaded line ready (told loaded (reached-here s loaded (line ∷ lines))) in
-    let r = some-run s a.1.0 lines ready (λ reached h. told reached (reached-later s loaded a.1.0 reached line lines a.0 a.1.1 h)) in
+some-run : (s : Setting) (loaded : Loaded) (lines : List (List ℕ)) → IsReady s.job → SomeRun s loaded lines
+some-run s loaded [] ready = record { answers = []; last = loaded; runs = refl; none = refl }
+some-run s loaded (line ∷ lines) ready =
+    let a = some-answer s loaded line ready in
+    let r = some-run s a.1.0 lines ready in
     record {
       answers = a.0 ∷ r.answers;
       last = r.last;
@@ -85,6 +75,6 @@ some-run s loaded (line ∷ lines) ready told =
     }
 
 pub goes-on : EveryBeginningGoesOn
-goes-on s loaded after lines more answers ready told h =
-    let r = some-run s after more ready (λ reached k. told reached (reached-behind s loaded after reached lines more answers h k)) in
+goes-on s loaded after lines more answers ready h =
+    let r = some-run s after more ready in
     (r.answers, (r.last, runs-join s loaded after r.last lines more answers r.answers h r.runs, r.none))

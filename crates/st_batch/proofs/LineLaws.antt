@@ -132,7 +132,7 @@ some-command s loaded text =
 
 -- every line has an answer that names no fault of the files
 pub some-answer : EveryLineHasAnswer
-some-answer s loaded line ready told = by (cases_lt MAX_LINE (length line)) (cases_Bool (begins_command (trimmed line)))
+some-answer s loaded line ready = by (cases_lt MAX_LINE (length line)) (cases_Bool (begins_command (trimmed line)))
   where
     by : (MAX_LINE < length line) ⊎ (length line ≤ MAX_LINE) → (begins_command (trimmed line) ≡ true) ⊎ (begins_command (trimmed line) ≡ false) → HasAnswer s loaded line
     by (inl long) b = (Refused LineTooLong, (loaded, inl (long, refl, refl), λ e. cc))
@@ -140,5 +140,5 @@ some-answer s loaded line ready told = by (cases_lt MAX_LINE (length line)) (cas
         let c = some-command s loaded (trimmed line) in
         of-text s loaded line short (c.0, (c.1.0, inl (y, c.1.1), c.1.2))
     by (inr short) (inr n) =
-        let t = some-time s.job loaded (trimmed line) ready told in
+        let t = some-time s.job loaded (trimmed line) ready in
         of-text s loaded line short (t.0, (loaded, inr (n, t.1, refl), t.2))

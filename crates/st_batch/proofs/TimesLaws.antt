@@ -1,7 +1,6 @@
--- A time has an answer where the job's tables are given or refused, and one that isn't left undecided.
+-- A time has an answer, and one that isn't left undecided.
 use Rattle.std.proofs.Common.{◌≡◌, ◌≢◌, ℕ, Result, Ok, Err, List, refl, sym, ap, ◌∙◌, subst}
 use Rattle.st_answers.specs.Answer.{AnswerGives}
-use Rattle.st_answers.specs.Laws.{AreTold}
 use Rattle.st_answers.specs.Ready.{IsReady}
 use Rattle.st_answers.specs.declared.fault.AnswerFault.{AnswerFault}
 use Rattle.st_answers.specs.declared.fault.AnswerFault.TheVariants as answer
@@ -52,10 +51,10 @@ answer-none : (job : Job) (r : Result (List ℕ) AnswerFault) → time_answer jo
 answer-none job (Ok said) = λ e. cc
 answer-none job (Err f) = λ e. fault-none (clock_id job.clock) f (refused-is (answer_fault (clock_id job.clock) f) line.FileFault e)
 
-pub some-time : (job : Job) (loaded : Loaded) (text : List ℕ) → IsReady job → AreTold job loaded
+pub some-time : (job : Job) (loaded : Loaded) (text : List ℕ) → IsReady job
     → (a : Answer) × TimeGives job loaded text a × (a ≢ Refused line.FileFault)
-some-time job loaded text ready told =
-    let r = each-text-has-answer job loaded text ready told in
+some-time job loaded text ready =
+    let r = each-text-has-answer job loaded text ready in
     (time_answer job r.0, record { result = r.0; given = r.1; answered = refl }, answer-none job r.0)
 
 -- two answers of a time agree

@@ -1,7 +1,7 @@
 -- What the definitions of a run say by themselves, as laws.
 use Rattle.std.specs.Prelude.{◌≡◌, ◌≢◌, ◌⊎◌, ℕ, ◌<◌, ◌^◌, ◌-◌, Option, Some, Result, Ok, Err, List, ◌++◌, [], ◌∷◌, count_by, length, ◌≤◌, ⊤}
 use Rattle.st_outside.specs.Entries.{Entries}
-use Rattle.st_answers.specs.Laws.{AreTold, HasSineThereOrBack, IsExact}
+use Rattle.st_answers.specs.Laws.{HasSineThereOrBack, IsExact}
 use Rattle.st_answers.specs.Ready.{IsReady}
 use Rattle.st_batch.specs.declared.answer.Answer.{Answer}
 use Rattle.st_batch.specs.declared.answer.Answer.TheVariants.{Refused}
@@ -59,10 +59,6 @@ pub record IsReached (s : Setting) (loaded : Loaded) (lines : List (List ℕ)) (
   pub among : lines ≡ first ++ more
   pub answered : RunsTo s loaded first answers reached
 
--- each loaded list that is reached gives or refuses the tables that the job asks for
-abbrev pub AreAllTold : Setting → Loaded → List (List ℕ) → Type 0
-AreAllTold s loaded lines = (reached : Loaded) → IsReached s loaded lines reached → AreTold s.job reached
-
 -- by each loaded list that is reached no sine stands on the job's way
 abbrev pub AreAllExact : Setting → Loaded → List (List ℕ) → Type 0
 AreAllExact s loaded lines = (reached : Loaded) → IsReached s loaded lines reached → IsExact s.job reached
@@ -101,11 +97,10 @@ OneOutput =
     → IsTold o files input → IsTold p files input → IsExactRun o words → IsComplete first → IsComplete second
     → Outcome o words first one → Outcome p words second other → (first ≡ second) × (one ≡ other)
 
--- For a job that is ready every line has an answer by every loaded list that gives or refuses the job's tables, and all files,
--- and one that names no fault of the files.
+-- For a job that is ready every line has an answer by every loaded list and all files, and one that names no fault of the files.
 abbrev pub EveryLineHasAnswer : Type 0
 EveryLineHasAnswer =
-    (s : Setting) (loaded : Loaded) (line : List ℕ) → IsReady s.job → AreTold s.job loaded
+    (s : Setting) (loaded : Loaded) (line : List ℕ) → IsReady s.job
     → (answer : Answer) × ((after : Loaded) × MayAnswer s loaded line answer after × (answer ≢ Refused FileFault))
 
 -- By files that tell their bytes, and whatever stands on the way of a job that is ready, two answers of a line that name no fault
@@ -160,12 +155,12 @@ abbrev pub OneEnding : Type 0
 OneEnding =
     (input left : List ℕ) (lines other : List (List ℕ)) → HaveEnded (Some input) (Some left) lines → HaveEnded (Some input) (Some left) other → lines ≡ other
 
--- For a job that is ready, and where each loaded list that is reached gives or refuses its tables, answers to some first lines
--- go on to answers to all lines, and those to the later lines name no fault of the files.
+-- For a job that is ready answers to some first lines go on to answers to all lines, and those to the later lines name no
+-- fault of the files.
 abbrev pub EveryBeginningGoesOn : Type 0
 EveryBeginningGoesOn =
     (s : Setting) (loaded after : Loaded) (lines more : List (List ℕ)) (answers : List Answer)
-    → IsReady s.job → AreAllTold s loaded (lines ++ more) → RunsTo s loaded lines answers after
+    → IsReady s.job → RunsTo s loaded lines answers after
     → (later : List Answer) × ((last : Loaded) × RunsTo s loaded (lines ++ more) (answers ++ later) last × (count_by is_file_fault later ≡ 0))
 
 -- all lines were answered, or the setup was refused for a fault of the files, or a fault of the input or the output or want of

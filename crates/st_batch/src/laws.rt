@@ -27,8 +27,7 @@ pub fn good_run_is_answered()
     ensures { GoodRunIsAnswered }
 {}
 
-/// Every line has an answer for a job that is ready, as the job of each session is, and by a loaded list that gives the tables
-/// that the job asks for or refuses one.
+/// Every line has an answer, by every loaded list, for a job that is ready, as the job of each session is.
 pub fn every_line_has_an_answer()
     ensures { EveryLineHasAnswer }
 {}
@@ -63,8 +62,7 @@ pub fn one_answer()
 {}
 
 /// Answers to some first lines go on to answers to all lines, so that what was written of a run that was cut off begins
-/// such answers: for a job that is ready, where each loaded list that answers to first lines lead to gives the tables that
-/// the job asks for or refuses one.
+/// such answers: for a job that is ready.
 pub fn every_beginning_goes_on()
     ensures { EveryBeginningGoesOn }
 {}
