@@ -12,7 +12,7 @@ use Rattle.st_samples.specs.SampleLine.{count_of, label_text, IsLabelText, IsLab
 same_count : (p q : ℕ) → pos (p * 10 ^ 15) ≡ pos (q * 10 ^ 15) → p ≡ q
 same_count p q e = let counts : p * 10 ^ 15 ≡ q * 10 ^ 15 = cc in omega arith
 
-one_text : (label : Label) (a b : List ℕ) → IsLabelText label a → IsLabelText label b → a ≡ b
+pub one_text : (label : Label) (a b : List ℕ) → IsLabelText label a → IsLabelText label b → a ≡ b
 one_text label a b h k =
     h.whole
     ∙ ap (λ (c : Civil). label_text c h.passed) (one_civil label.day h.civil k.civil h.date k.date)

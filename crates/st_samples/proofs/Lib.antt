@@ -1,5 +1,7 @@
 pub mod DateParts
 mod Examples
+pub mod HasLines
+pub mod JobLaws
 pub mod LabelLaws
 pub mod LabelReads
 pub mod ReadLaws

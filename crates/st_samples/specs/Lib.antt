@@ -1,4 +1,5 @@
 pub mod Generator
+pub mod JobLine
 pub mod Laws
 pub mod SampleLine
 pub mod Summary

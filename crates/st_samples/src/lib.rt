@@ -7,10 +7,12 @@
 mod generator;
 pub mod laws;
 mod line;
+mod of_job;
 mod summary;
 #[cfg(test)]
 mod tests;
 
 pub use generator::{next, tick_of};
 pub use line::{label_line, seconds_line, tick_line};
+pub use of_job::job_line;
 pub use summary::{MOST_LINES, Summary, put_summary};
