@@ -19,7 +19,6 @@ use Rattle.st_batch.specs.Session.{RunsTo}
 use Rattle.st_batch.specs.Setting.{Setting}
 use Rattle.st_batch.specs.Setup.{SetupGives}
 use Rattle.st_batch.specs.Texts.{line_of}
-use Rattle.st_batch.specs.Words.{sample_place}
 use Rattle.st_batch.proofs.CutLaws.{cuts-begun, cuts-join, cuts-line}
 
 abbrev kernel : List ℕ → Kernel
@@ -63,10 +62,6 @@ here = record {
 -- a setup whose file isn't there is refused
 pub no_setup : SetupGives here (Err NoFile)
 no_setup = inl (kernel_fault.NoFile, refl, refl)
-
--- the words are refused for `-sample` by its place
-pub sample_third : sample_place 1 (codes "-setup" ∷ codes "s" ∷ codes "-SAMPLE" ∷ []) ≡ 3
-sample_third = refl
 
 -- a session without files: a kernel that was loaded twice is unloaded once, none is left after `$clear`, and none can be loaded
 pub session : RunsTo here (kernel (codes "a") ∷ kernel (codes "b") ∷ kernel (codes "a") ∷ []) (codes "$unload a" ∷ codes " $clear\t" ∷ codes "$unload a" ∷ codes "$load  a b" ∷ [])

@@ -3,13 +3,13 @@ use Rattle.std.proofs.Common.{◌≡◌, ◌≢◌, ℕ, ◌<◌, ◌≤◌, ◌
 use Rattle.st_outside.specs.Entries.{Entries}
 use Rattle.st_batch.specs.declared.fault.LineFault.{LineFault}
 use Rattle.st_batch.specs.declared.fault.LineFault.TheVariants as line
+use Rattle.st_words.specs.Reading.{WordsGive}
 use Rattle.st_words.specs.declared.job.Job.{Job}
 use Rattle.st_batch.specs.declared.status.Status.TheVariants.{Done, SomeRefused, BadWords, BadSetup, ReadFault, WriteFault, OutOfMemory, InputTooLong}
 use Rattle.st_batch.specs.Laws.{GoodRunIsAnswered, IsAnsweredOrCut}
 use Rattle.st_batch.specs.Outcome.{IsLongInput, Outside, SetupRefused, over}
 use Rattle.st_batch.specs.Setting.{State}
 use Rattle.st_batch.specs.Setup.{SetupGives}
-use Rattle.st_batch.specs.Words.{WordsAsk}
 use Rattle.st_batch.proofs.OneSetup.{not-both}
 use Rattle.st_batch.proofs.WordsLaws.{one-job, one-or-none}
 
@@ -48,7 +48,7 @@ fault-or line.OutOfMemory = inr (λ e. cc)
 
 -- a setup that loads is refused for a fault of the files alone
 setup-fault : (o : Outside) (files : Entries) (words : List (List ℕ)) (job : Job) (session : State) (cause : LineFault) (bytes : List ℕ) → o.files.map ≡ Some files
-    → WordsAsk words (Ok job) → SetupGives (over o job) (Ok session) → SetupRefused o words cause bytes → IsAnsweredOrCut (BadSetup cause)
+    → WordsGive words (Ok job) → SetupGives (over o job) (Ok session) → SetupRefused o words cause bytes → IsAnsweredOrCut (BadSetup cause)
 setup-fault o files words job session cause bytes told asked given k = by (fault-or cause)
   where
     by : IsAnsweredOrCut (BadSetup cause) ⊎ (cause ≢ line.FileFault) → IsAnsweredOrCut (BadSetup cause)

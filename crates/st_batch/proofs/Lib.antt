@@ -14,6 +14,8 @@ pub mod OneOutput
 pub mod OneSetup
 pub mod ReadLaws
 pub mod RunLaws
+pub mod SampleCounts
+pub mod SampleLaws
 pub mod SessionLaws
 pub mod SetupLaws
 pub mod SetupSteps

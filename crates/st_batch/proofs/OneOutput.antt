@@ -4,6 +4,7 @@ use Rattle.st_answers.specs.Ready.{IsReady}
 use Rattle.st_outside.specs.Causes.{RoseBy}
 use Rattle.st_outside.specs.Entries.{Entries}
 use Rattle.st_batch.specs.declared.answer.Answer.{Answer}
+use Rattle.st_words.specs.Reading.{WordsGive}
 use Rattle.st_words.specs.declared.fault.WordFault.{WordFault}
 use Rattle.st_batch.specs.declared.fault.LineFault.{LineFault}
 use Rattle.st_batch.specs.declared.fault.LineFault.TheVariants.{FileFault}
@@ -11,6 +12,7 @@ use Rattle.st_words.specs.declared.job.Job.{Job}
 use Rattle.st_words.specs.declared.job.Work.{Work}
 use Rattle.st_words.specs.declared.job.Work.TheVariants.{Time, Batch, Sample}
 use Rattle.st_words.proofs.GoodJob.{good_job}
+use Rattle.st_samples.proofs.JobLaws.{one-sample}
 use Rattle.st_batch.specs.declared.status.Status.{Status}
 use Rattle.st_batch.specs.declared.status.Status.TheVariants.{Done, SomeRefused, BadWords, BadSetup, ReadFault, WriteFault, OutOfMemory, InputTooLong}
 use Rattle.st_batch.specs.Causes.{IsCaused, is_file_fault}
@@ -20,8 +22,7 @@ use Rattle.st_batch.specs.Session.{RunsTo}
 use Rattle.st_batch.specs.Setting.{Loaded, Setting, State}
 use Rattle.st_batch.specs.Setup.{SetupGives}
 use Rattle.st_batch.specs.Texts.{setup_line, words_line}
-use Rattle.st_batch.specs.Lines.{AreLines}
-use Rattle.st_batch.specs.Words.{WordsAsk}
+use Rattle.st_batch.specs.Lines.{AreLines, AreLinesBy}
 use Rattle.st_batch.proofs.GoesOn.{reached-here, reached-later}
 use Rattle.st_batch.proofs.OneLine.{decided-run, names-none, one-answer, rest-none}
 use Rattle.st_batch.proofs.OneSetup.{not-both, one-refusal, one-setup}
@@ -48,10 +49,10 @@ one-run s files loaded (line ∷ lines) (p ∷ a) (q ∷ b) x y told ready exact
     let answers = one-run s files w lines a b x y told ready later (subst P step.1 more) rest (rest-none p a m) (rest-none q b n) in
     λ i. step.0 i ∷ answers i
 
-one-lines : (work : Work) (loaded : Loaded) (input : List ℕ) (a b : List (List ℕ)) → AreLines work loaded (Some input) a → AreLines work loaded (Some input) b → a ≡ b
-one-lines (Time text) loaded input a b h k = h ∙ sym k
-one-lines Batch loaded input a b h k = h ∙ sym k
-one-lines (Sample n seed) loaded input a b h k = h ∙ sym k
+one-lines : (work : Work) (job : Job) (loaded : Loaded) (input : List ℕ) (a b : List (List ℕ)) → AreLinesBy work job loaded (Some input) a → AreLinesBy work job loaded (Some input) b → a ≡ b
+one-lines (Time text) job loaded input a b h k = h ∙ sym k
+one-lines Batch job loaded input a b h k = h ∙ sym k
+one-lines (Sample n seed) job loaded input a b h k = one-sample job loaded n seed a b h k
 
 -- a refusal that has its cause names no fault of files that had none
 no-fault : (o : Outside) (files : Entries) (input : List ℕ) (cause : LineFault) → IsTold o files input → IsCaused cause o.files.counts o.files_after.counts → cause ≢ FileFault
@@ -61,7 +62,7 @@ no-fault o files input cause told caused e =
 
 -- a job that was opened to a session
 record Opening (o : Outside) (words : List (List ℕ)) (job : Job) (session : State) : Type 0 where
-  asked : WordsAsk words (Ok job)
+  asked : WordsGive words (Ok job)
   setup : SetupGives (over o job) (Ok session)
 
 -- the job of a session that was opened is ready
@@ -69,7 +70,7 @@ is-ready : (o : Outside) (words : List (List ℕ)) (job : Job) (session : State)
 is-ready o words job session opening = by opening.setup
   where
     by : SetupGives (over o job) (Ok session) → IsReady session.job
-    by (first, names, begins, clock, loads) = opened-ready job session.job first (good_job words job opening.asked.0) clock
+    by (first, names, begins, clock, loads) = opened-ready job session.job first (good_job words job opening.asked) clock
 
 abbrev IsSame : Status → Status → List ℕ → List ℕ → Type 0
 IsSame first second one other = (first ≡ second) × (one ≡ other)
@@ -83,9 +84,9 @@ module _ (o p : Outside) (files : Entries) (input : List ℕ) (job : Job) (loade
     (same : IsTold p files input) (ready : IsReady job) (h : AllAnswered o job loaded first one) (k : AllAnswered p job loaded second other) where
   same-lines : h.lines ≡ k.lines
   same-lines =
-      let Lines : Option (List ℕ) → Type 0 = λ i. AreLines job.work loaded i h.lines in
-      let Others : Option (List ℕ) → Type 0 = λ i. AreLines job.work loaded i k.lines in
-      one-lines job.work loaded input h.lines k.lines (subst Lines told.input_told h.are_lines) (subst Others same.input_told k.are_lines)
+      let Lines : Option (List ℕ) → Type 0 = λ i. AreLines job loaded i h.lines in
+      let Others : Option (List ℕ) → Type 0 = λ i. AreLines job loaded i k.lines in
+      one-lines job.work job loaded input h.lines k.lines (subst Lines told.input_told h.are_lines) (subst Others same.input_told k.are_lines)
 
   again-runs : RunsTo (over o job) loaded h.lines k.answers k.after
   again-runs =

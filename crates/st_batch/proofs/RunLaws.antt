@@ -2,6 +2,7 @@
 use Rattle.std.proofs.Common.{◌≡◌, ◌≢◌, ℕ, inl, inr, Option, Ok, Err, List, [], refl, sym, ◌∙◌, subst}
 use Rattle.std.proofs.KnownBytes.{Appends-nil}
 use Rattle.st_outside.specs.States.{FilesState, InputState}
+use Rattle.st_words.specs.Reading.{WordsGive}
 use Rattle.st_words.specs.declared.fault.WordFault.{WordFault}
 use Rattle.st_batch.specs.declared.fault.LineFault.{LineFault}
 use Rattle.st_words.specs.declared.job.Job.{Job}
@@ -14,12 +15,11 @@ use Rattle.st_batch.specs.OutputSteps.{Delivers, IsCut}
 use Rattle.st_batch.specs.Setting.{State}
 use Rattle.st_batch.specs.Setup.{SetupGives}
 use Rattle.st_batch.specs.Texts.{setup_line, words_line}
-use Rattle.st_batch.specs.Words.{WordsAsk}
-use Rattle.st_batch.proofs.InputLaws.{Gives}
+use Rattle.st_batch.proofs.InputLaws.{Ends}
 
 -- a job was opened, and its lines answered as far as the run came
 lines-ended : (o : Outside) (words : List (List ℕ)) (job : Job) (session : State) (status : Status) (bytes : List ℕ)
-    → WordsAsk words (Ok job) → SetupGives (over o job) (Ok session) → LinesOutcome o session.job session.loaded status bytes → Outcome o words status bytes
+    → WordsGive words (Ok job) → SetupGives (over o job) (Ok session) → LinesOutcome o session.job session.loaded status bytes → Outcome o words status bytes
 lines-ended o words job session Done bytes asked setup h = record { job = job; session = session; asked = asked; setup = setup; lines = h }
 lines-ended o words job session SomeRefused bytes asked setup h = record { job = job; session = session; asked = asked; setup = setup; lines = h }
 lines-ended o words job session (BadWords w) bytes asked setup h = absurd h
@@ -31,10 +31,13 @@ lines-ended o words job session OutOfMemory bytes asked setup h = inl (record { 
 
 -- the same of what the output took
 pub lines-outcome : (before now : FilesState) (i j : InputState) (taken after : Option (List ℕ)) (words : List (List ℕ)) (job : Job) (session : State) (status : Status)
-    → WordsAsk words (Ok job) → SetupGives (record { files = before.map; job = job }) (Ok session) → Took taken after (Gives before now i j session status)
+    → WordsGive words (Ok job) → SetupGives (record { files = before.map; job = job }) (Ok session) → Took taken after (Ends before now i j session status)
     → Took taken after (Outcome (around before now i j) words status)
-lines-outcome before now i j taken after words job session status asked setup (bytes, appends, h) =
+lines-outcome before now i j taken after words job session status asked setup (bytes, appends, inl h) =
     (bytes, appends, lines-ended (around before now i j) words job session status bytes asked setup h)
+lines-outcome before now i j taken after words job session status asked setup (bytes, appends, inr (e, nothing)) =
+    let P : Status → Type 0 = λ s. Outcome (around before now i j) words s bytes in
+    (bytes, appends, subst P (sym e) (inr (inr nothing)))
 
 cut-off : (o : Outside) (words : List (List ℕ)) (status : Status) (bytes : List ℕ) → IsCut status → ((s : Status) → IsCutOff o words s bytes) → Outcome o words status bytes
 cut-off o words Done bytes cut b = absurd cut
@@ -48,7 +51,7 @@ cut-off o words OutOfMemory bytes cut b = b OutOfMemory
 
 -- a setup that was refused
 pub setup-outcome : (o : Outside) (words : List (List ℕ)) (job : Job) (cause : LineFault) (status : Status) (taken after : Option (List ℕ))
-    → WordsAsk words (Ok job) → SetupGives (over o job) (Err cause) → IsCaused cause o.files.counts o.files_after.counts → o.input_after ≡ o.input
+    → WordsGive words (Ok job) → SetupGives (over o job) (Err cause) → IsCaused cause o.files.counts o.files_after.counts → o.input_after ≡ o.input
     → Delivers (setup_line cause) (BadSetup cause) taken after status → Took taken after (Outcome o words status)
 setup-outcome o words job cause status taken after asked given caused unread (inl (appends, same)) =
     let P : Status → Type 0 = λ s. Outcome o words s (setup_line cause) in
@@ -61,7 +64,7 @@ setup-outcome o words job cause status taken after asked given caused unread (in
 )
 
 -- words that were refused
-pub words-outcome : (o : Outside) (words : List (List ℕ)) (fault : WordFault) (status : Status) (taken after : Option (List ℕ)) → WordsAsk words (Err fault)
+pub words-outcome : (o : Outside) (words : List (List ℕ)) (fault : WordFault) (status : Status) (taken after : Option (List ℕ)) → WordsGive words (Err fault)
     → Delivers (words_line fault) (BadWords fault) taken after status → Took taken after (Outcome o words status)
 words-outcome o words fault status taken after given (inl (appends, same)) =
     let P : Status → Type 0 = λ s. Outcome o words s (words_line fault) in
@@ -75,17 +78,19 @@ nothing-done o words taken unread = ([], Appends-nil taken, inr (inr (record { u
 
 -- a run whose lines were answered had nothing to read only where its job is of one line
 pub no-input : (before now : FilesState) (i j : InputState) (taken after : Option (List ℕ)) (words : List (List ℕ)) (job : Job) (session : State) (status : Status)
-    → session.job.work ≡ job.work → WordsAsk words (Ok job) → Took taken after (Gives before now i j session status) → ReadsNothing words status → session.job.work ≢ Batch
-no-input before now i j taken after words job session status same asked (bytes, appends, h) nothing = by status h nothing
+    → session.job.work ≡ job.work → WordsGive words (Ok job) → Took taken after (Ends before now i j session status) → ReadsNothing words status → session.job.work ≢ Batch
+no-input before now i j taken after words job session status same asked (bytes, appends, ended) nothing = by status ended nothing
   where
-    of : ((other : Job) → WordsAsk words (Ok other) → other.work ≡ Batch → ⊥) → session.job.work ≢ Batch
+    of : ((other : Job) → WordsGive words (Ok other) → other.work ≡ Batch → ⊥) → session.job.work ≢ Batch
     of none = λ e. none job asked (sym same ∙ e)
 
-    by : (status : Status) → Gives before now i j session status bytes → ReadsNothing words status → session.job.work ≢ Batch
+    by : (status : Status) → Ends before now i j session status bytes → ReadsNothing words status → session.job.work ≢ Batch
     by Done h none = of none
     by SomeRefused h none = of none
-    by (BadWords w) h none = absurd h
-    by (BadSetup c) h none = absurd h
+    by (BadWords w) (inl h) none = absurd h
+    by (BadWords w) (inr (e, h)) none = absurd cc
+    by (BadSetup c) (inl h) none = absurd h
+    by (BadSetup c) (inr (e, h)) none = absurd cc
     by ReadFault h none = of none
     by WriteFault h none = of none
     by OutOfMemory h none = of none

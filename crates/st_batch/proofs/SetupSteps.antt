@@ -7,7 +7,7 @@ use Rattle.st_outside.specs.Causes.{AreLater, FileCounts}
 use Rattle.st_outside.specs.Entries.{Entries}
 use Rattle.st_answers.specs.Ready.{IsReady}
 use Rattle.st_answers.specs.Sides.{has_clock}
-use Rattle.st_words.specs.Job.{IsGoodJob}
+use Rattle.st_words.specs.Job.{IsGoodJob, IsWorkInRange}
 use Rattle.st_words.specs.Setup.{SetupFiles}
 use Rattle.st_words.specs.declared.fault.IdFault.{IdFault}
 use Rattle.st_words.specs.declared.fault.IdFault.TheVariants as id
@@ -21,7 +21,6 @@ use Rattle.st_batch.specs.declared.kernel_fault.KernelFault.TheVariants as kerne
 use Rattle.st_batch.specs.Causes.{IsCaused}
 use Rattle.st_batch.specs.Load.{LoadGives, line_fault}
 use Rattle.st_batch.specs.Setting.{Loaded, Setting, State}
-use Rattle.st_batch.specs.Words.{is_sample}
 use Rattle.st_batch.specs.Setup.{ClockGives, LoadsGive, SetupGives, asks_clock, files_fault, id_fault}
 
 -- a cause in a later part is one in the whole, where no fault came before
@@ -197,5 +196,5 @@ names-seen a first seen names r e h = subst (λ (l : List (List ℕ)). LoadsGive
 pub setup-work : (s : Setting) (session : State) → SetupGives s (Ok session) → session.job.work ≡ s.job.work
 setup-work s session (first, names, begins, clock, loads) = clock-keeps (asks_clock s.job) s.job session.job first clock
 
-pub setup-built : (s : Setting) (session : State) → SetupGives s (Ok session) → is_sample s.job.work ≡ false → is_sample session.job.work ≡ false
-setup-built s session h built = ap is_sample (setup-work s session h) ∙ built
+pub setup-range : (s : Setting) (session : State) → SetupGives s (Ok session) → IsWorkInRange s.job.work → IsWorkInRange session.job.work
+setup-range s session h range = subst IsWorkInRange (sym (setup-work s session h)) range

@@ -8,6 +8,7 @@ use Rattle.st_batch.specs.declared.answer.Answer.TheVariants.{Refused}
 use Rattle.st_batch.specs.declared.kernel_fault.KernelFault.{KernelFault}
 use Rattle.st_batch.specs.declared.kernel_fault.KernelFault.TheVariants as kernel
 use Rattle.st_batch.specs.declared.fault.LineFault.TheVariants.{FileFault, Undecided}
+use Rattle.st_words.specs.Reading.{WordsGive}
 use Rattle.st_words.specs.declared.job.Job.{Job}
 use Rattle.st_batch.specs.declared.status.Status.{Status}
 use Rattle.st_batch.specs.declared.status.Status.TheVariants.{Done, SomeRefused, BadWords, BadSetup, InputTooLong}
@@ -19,7 +20,6 @@ use Rattle.st_batch.specs.Outcome.{AllAnswered, HaveEnded, Outcome, Outside, ove
 use Rattle.st_batch.specs.Session.{MayAnswer, RunsTo}
 use Rattle.st_batch.specs.Setting.{Loaded, Setting, State}
 use Rattle.st_batch.specs.Setup.{SetupGives}
-use Rattle.st_batch.specs.Words.{WordsAsk}
 
 -- the run was not cut off
 abbrev pub IsComplete : Status → Type 0
@@ -66,14 +66,14 @@ AreAllExact s loaded lines = (reached : Loaded) → IsReached s loaded lines rea
 -- the same for the job that the words ask for, its setup and its lines
 abbrev pub IsExactRun : Outside → List (List ℕ) → Type 0
 IsExactRun o words =
-    (job : Job) (session : State) (lines : List (List ℕ)) → WordsAsk words (Ok job) → SetupGives (over o job) (Ok session)
-    → AreLines session.job.work session.loaded o.input.left lines → AreAllExact (over o session.job) session.loaded lines
+    (job : Job) (session : State) (lines : List (List ℕ)) → WordsGive words (Ok job) → SetupGives (over o job) (Ok session)
+    → AreLines session.job session.loaded o.input.left lines → AreAllExact (over o session.job) session.loaded lines
 
 -- all lines were answered twice, with answers that agree
 pub record AgreeOutputs (o p : Outside) (words : List (List ℕ)) (first second : Status) (one other : List ℕ) : Type 0 where
   pub job : Job
   pub session : State
-  pub asked : WordsAsk words (Ok job)
+  pub asked : WordsGive words (Ok job)
   pub setup : SetupGives (over o job) (Ok session)
   pub run : AllAnswered o session.job session.loaded first one
   pub again : AllAnswered p session.job session.loaded second other
@@ -177,5 +177,5 @@ IsAnsweredOrCut status = ⊤
 abbrev pub GoodRunIsAnswered : Type 0
 GoodRunIsAnswered =
     (o : Outside) (files : Entries) (input : List ℕ) (words : List (List ℕ)) (job : Job) (session : State) (status : Status) (bytes : List ℕ)
-    → o.files.map ≡ Some files → o.input.left ≡ Some input → WordsAsk words (Ok job) → SetupGives (over o job) (Ok session) → length input ≤ most_input_bytes
+    → o.files.map ≡ Some files → o.input.left ≡ Some input → WordsGive words (Ok job) → SetupGives (over o job) (Ok session) → length input ≤ most_input_bytes
     → Outcome o words status bytes → IsAnsweredOrCut status

@@ -9,9 +9,9 @@ pub mod LoadSteps
 pub mod Outcome
 pub mod OutputSteps
 pub mod Returns
+pub mod SampleSteps
 pub mod Session
 pub mod Setting
 pub mod Setup
 pub mod Texts
 pub mod Times
-pub mod Words

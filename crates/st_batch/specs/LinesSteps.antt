@@ -1,19 +1,18 @@
 -- How far the answering of lines has come.
-use Rattle.std.specs.Prelude.{◌≡◌, ℕ, true, false, ◌||◌, if◌then◌else◌, Option, Some, None, List, [], ◌∷◌, ◌++◌, length}
+use Rattle.std.specs.Prelude.{◌≡◌, ℕ, true, false, ◌||◌, if◌then◌else◌, Option, Some, None, List, [], ◌∷◌, ◌++◌, length, ◌⊎◌}
 use Rattle.std.specs.Io.KnownBytes.{Appends, Consumes}
 use Rattle.std.specs.List.{flat_map, list_any}
 use Rattle.st_text.specs.Lines.{lines_of}
 use Rattle.st_outside.specs.States.{FilesState}
 use Rattle.st_outside.specs.declared.faults.SinkFault.{SinkFault}
 use Rattle.st_outside.specs.declared.faults.SinkFault.TheVariants as fault
-use Rattle.st_words.specs.declared.job.Work.{Work}
-use Rattle.st_words.specs.declared.job.Work.TheVariants.{Time, Batch}
+use Rattle.st_words.specs.declared.job.Job.{Job}
 use Rattle.st_batch.specs.declared.answer.Answer.{Answer}
 use Rattle.st_batch.specs.declared.answering.Answering.{Answering}
 use Rattle.st_batch.specs.declared.status.Status.{Status}
 use Rattle.st_batch.specs.declared.status.Status.TheVariants.{Done, SomeRefused, WriteFault, OutOfMemory}
 use Rattle.st_batch.specs.Causes.{AreCounted}
-use Rattle.st_batch.specs.Outcome.{HasNoFeed, is_refused}
+use Rattle.st_batch.specs.Outcome.{HasNoFeed, LinesOutcome, NothingDone, Outside, is_refused}
 use Rattle.st_batch.specs.OutputSteps.{TakesPrefix}
 use Rattle.st_batch.specs.Session.{MayAnswer, RunsTo}
 use Rattle.st_batch.specs.Setting.{Loaded, Setting, setting}
@@ -149,7 +148,6 @@ pub record ReadsInput (input left : Option (List ℕ)) (from to : Moment) (next 
   pub long : length text ≡ count
   pub read : ReadsText from to [] text next
 
--- where the lines come from: one is given, or they are those of the input
-abbrev pub work_of : Option (List ℕ) → Work
-work_of (Some text) = Time text
-work_of None = Batch
+-- how the answering of a session's lines ended, or that memory ran out before anything was written
+abbrev pub LinesEnd : Outside → Job → Loaded → Status → List ℕ → Type 0
+LinesEnd o job loaded status bytes = LinesOutcome o job loaded status bytes ⊎ ((status ≡ OutOfMemory) × NothingDone o bytes)

@@ -7,10 +7,11 @@ use Rattle.st_text.specs.Lines.{lines_of}
 use Rattle.st_batch.specs.declared.answer.Answer.{Answer}
 use Rattle.st_batch.specs.declared.answer.Answer.TheVariants.{Text, Refused}
 use Rattle.st_batch.specs.declared.fault.LineFault.{LineFault}
+use Rattle.st_words.specs.Reading.{WordsGive}
 use Rattle.st_words.specs.declared.fault.WordFault.{WordFault}
 use Rattle.st_words.specs.declared.job.Job.{Job}
 use Rattle.st_words.specs.declared.job.Work.{Work}
-use Rattle.st_words.specs.declared.job.Work.TheVariants.{Batch}
+use Rattle.st_words.specs.declared.job.Work.TheVariants.{Batch, Sample}
 use Rattle.st_batch.specs.declared.status.Status.{Status}
 use Rattle.st_batch.specs.declared.status.Status.TheVariants.{Done, SomeRefused, BadWords, BadSetup, ReadFault, WriteFault, OutOfMemory, InputTooLong}
 use Rattle.st_batch.specs.Causes.{AreCounted, IsCaused}
@@ -18,12 +19,12 @@ use Rattle.st_batch.specs.Limits.{most_input_bytes}
 use Rattle.st_batch.specs.Session.{RunsTo}
 use Rattle.st_batch.specs.Setting.{Loaded, Setting, State}
 use Rattle.st_batch.specs.Setup.{SetupGives}
-use Rattle.st_batch.specs.Texts.{line_of, setup_line, words_line}
-use Rattle.st_batch.specs.Words.{WordsAsk}
+use Rattle.st_batch.specs.Texts.{line_of, setup_line, summary_line, words_line}
 use Rattle.st_batch.specs.Lines.{AreLines, IsShortInput}
 
--- what a run writes for the answers of its lines: each as a line of its own
+-- what a run writes for the answers of its lines: of a sample their summary, else each as a line of its own
 abbrev pub output_of : Work → List Answer → List ℕ
+output_of (Sample n seed) answers = summary_line answers
 output_of work answers = flat_map line_of answers
 
 abbrev pub is_refused : Answer → Bool
@@ -54,12 +55,17 @@ abbrev pub IsReadWhole : Work → Option (List ℕ) → Type 0
 IsReadWhole Batch left = IsAtEnd left
 IsReadWhole work left = ⊤
 
+-- something may be written while these lines are still to be answered: of a sample nothing is before its last line
+abbrev pub MayWriteBefore : Work → List (List ℕ) → Type 0
+MayWriteBefore (Sample n seed) more = more ≡ []
+MayWriteBefore work more = ⊤
+
 -- all lines of a job were answered, from a loaded list on, and all answers written
 pub record AllAnswered (o : Outside) (job : Job) (loaded : Loaded) (status : Status) (bytes : List ℕ) : Type 0 where
   pub lines : List (List ℕ)
   pub answers : List Answer
   pub after : Loaded
-  pub are_lines : AreLines job.work loaded o.input.left lines
+  pub are_lines : AreLines job loaded o.input.left lines
   pub whole : IsReadWhole job.work o.input_after.left
   pub short : IsShortInput job.work o.input.left
   pub answered : RunsTo (over o job) loaded lines answers after
@@ -74,9 +80,10 @@ pub record SomeAnswered (o : Outside) (job : Job) (loaded : Loaded) (bytes : Lis
   pub answers : List Answer
   pub after : Loaded
   pub rest : List ℕ
-  pub are_lines : AreLines job.work loaded o.input.left (lines ++ more)
+  pub are_lines : AreLines job loaded o.input.left (lines ++ more)
   pub answered : RunsTo (over o job) loaded lines answers after
   pub counted : AreCounted o.files.counts o.files_after.counts answers
+  pub may : MayWriteBefore job.work more
   pub written : output_of job.work answers ≡ bytes ++ rest
 
 -- the bytes have no line feed
@@ -94,11 +101,12 @@ pub record HaveEnded (input left : Option (List ℕ)) (lines : List (List ℕ)) 
 
 -- the lines that had ended before a read failed were answered, and all their answers written
 pub record AnsweredTillFault (o : Outside) (job : Job) (loaded : Loaded) (bytes : List ℕ) : Type 0 where
+  pub batch : job.work ≡ Batch
   pub lines : List (List ℕ)
   pub more : List (List ℕ)
   pub answers : List Answer
   pub after : Loaded
-  pub are_lines : AreLines job.work loaded o.input.left (lines ++ more)
+  pub are_lines : AreLines job loaded o.input.left (lines ++ more)
   pub ended : HaveEnded o.input.left o.input_after.left lines
   pub answered : RunsTo (over o job) loaded lines answers after
   pub counted : AreCounted o.files.counts o.files_after.counts answers
@@ -123,19 +131,19 @@ LinesOutcome o job loaded status bytes = ⊥
 pub record LinesEnded (o : Outside) (words : List (List ℕ)) (status : Status) (bytes : List ℕ) : Type 0 where
   pub job : Job
   pub session : State
-  pub asked : WordsAsk words (Ok job)
+  pub asked : WordsGive words (Ok job)
   pub setup : SetupGives (over o job) (Ok session)
   pub lines : LinesOutcome o session.job session.loaded status bytes
 
 -- the words were refused
 pub record WordsRefused (words : List (List ℕ)) (fault : WordFault) (bytes : List ℕ) : Type 0 where
-  pub given : WordsAsk words (Err fault)
+  pub given : WordsGive words (Err fault)
   pub written : bytes ≡ words_line fault
 
 -- the setup was refused, and nothing read of the input
 pub record SetupRefused (o : Outside) (words : List (List ℕ)) (cause : LineFault) (bytes : List ℕ) : Type 0 where
   pub job : Job
-  pub asked : WordsAsk words (Ok job)
+  pub asked : WordsGive words (Ok job)
   pub given : SetupGives (over o job) (Err cause)
   pub caused : IsCaused cause o.files.counts o.files_after.counts
   pub unread : o.input_after ≡ o.input
@@ -177,4 +185,4 @@ IsAnswered status = ⊥
 abbrev pub ReadsNothing : List (List ℕ) → Status → Type 0
 ReadsNothing words (BadWords fault) = ⊤
 ReadsNothing words (BadSetup cause) = ⊤
-ReadsNothing words status = (job : Job) → WordsAsk words (Ok job) → job.work ≡ Batch → ⊥
+ReadsNothing words status = (job : Job) → WordsGive words (Ok job) → job.work ≡ Batch → ⊥

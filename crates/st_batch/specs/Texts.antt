@@ -1,5 +1,5 @@
 -- The lines that are written, with the texts of refusals, and the numbers of statuses. They are this project's own.
-use Rattle.std.specs.Prelude.{ℕ, List, [], ◌∷◌, ◌++◌, codes}
+use Rattle.std.specs.Prelude.{ℕ, List, [], ◌∷◌, ◌++◌, codes, map}
 use Rattle.st_text.specs.Bytes.{decimal_digits}
 use Rattle.st_kernel_text.specs.declared.fault.TextCause.{TextCause}
 use Rattle.st_kernel_text.specs.declared.fault.TextCause.TheVariants.{LineTooLong as LongLine, NoName, NoSign, NoValue, BadNumber, BadString, BadDate, MixedKinds, Unclosed, BadByte, TrailingText}
@@ -9,6 +9,8 @@ use Rattle.st_scales.specs.declared.fault.DeltetFault.{DeltetFault}
 use Rattle.st_scales.specs.declared.fault.DeltetFault.TheVariants.{Count, NotUnits, Range}
 use Rattle.st_scales.specs.declared.fault.DeltetVar.{DeltetVar}
 use Rattle.st_scales.specs.declared.fault.DeltetVar.TheVariants.{DeltaTa, K, Eb, M, M0, M1}
+use Rattle.st_samples.specs.Summary as counted
+use Rattle.st_samples.specs.Summary.{AnswerLine, summary_of, summary_text}
 use Rattle.st_tables.specs.Names.{var_name}
 use Rattle.st_ticks.specs.declared.fault.ClockTextFault.{ClockTextFault}
 use Rattle.st_ticks.specs.declared.fault.ClockTextFault.TheVariants as clock
@@ -130,6 +132,15 @@ refusal_text fault = refusal_name fault ++ refusal_details fault
 abbrev pub line_of : Answer → List ℕ
 line_of (Text text) = text ++ (10 ∷ [])
 line_of (Refused cause) = codes "refused " ++ (refusal_text cause ++ (10 ∷ []))
+
+-- an answer as a sample counts it: as it is written, without the line feed
+abbrev pub as_counted : Answer → AnswerLine
+as_counted (Text text) = counted.text text
+as_counted (Refused cause) = counted.refusal (codes "refused " ++ refusal_text cause)
+
+-- the line that a sample writes for its answers
+abbrev pub summary_line : List Answer → List ℕ
+summary_line answers = summary_text (summary_of (map as_counted answers)) ++ (10 ∷ [])
 
 -- the line that says why the setup is refused
 abbrev pub setup_line : LineFault → List ℕ

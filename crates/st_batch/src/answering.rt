@@ -24,6 +24,8 @@ pub struct Answering {
     pub alloc: Global,
     pub session: Session,
     pub gathered: Vec<u8>,
+    /// The room in which an answer is written before it is gathered.
+    pub line: Vec<u8>,
     /// Whether a line was refused.
     pub refused: bool,
 }
@@ -39,6 +41,7 @@ impl Answering {
             alloc,
             session,
             gathered: Vec::new(alloc),
+            line: Vec::new(alloc),
             refused: false,
         }
     }
@@ -51,9 +54,9 @@ impl Answering {
         ensures files { KeepsFiles (F.state files.old) (F.state files.new) }
     {
         let answer = self.session.answer_line(line, files)?;
-        let mut text = Vec::new(self.alloc);
-        put_answer(&mut text, &answer)?;
-        self.gathered.extend_from_slice(text.as_slice())?;
+        self.line.clear();
+        put_answer(&mut self.line, &answer)?;
+        self.gathered.extend_from_slice(self.line.as_slice())?;
         self.refused = self.refused || matches!(answer, Answer::Refused(_));
         Ok(())
     }

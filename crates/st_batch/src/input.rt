@@ -1,19 +1,19 @@
 //! Answering the lines that are asked for.
 
 ghost use Rattle.std.specs.Prelude.{◌≡◌, ◌+◌, ◌≢◌, ◌≤◌, false, [], ◌∷◌, ◌++◌, length, MatchOption, IfOk, OnOk, OnErr, IsErrOf};
+ghost use Rattle.st_words.specs.Job.{IsWorkInRange};
 ghost use Rattle.st_outside.specs.Causes.{Rose, RoseBeyond};
 ghost use Rattle.st_outside.specs.States.{FilesState, KeepsFiles};
 ghost use Rattle.st_text.specs.Lines as lines;
 ghost use Rattle.st_batch.specs.Limits.{most_input_bytes};
-ghost use Rattle.st_batch.specs.LinesSteps.{AnswersLine, CutsAtFeed, Finishes, FinishesWriting, ReadsText, StopsInText, moment};
+ghost use Rattle.st_batch.specs.LinesSteps.{AnswersLine, CutsAtFeed, Finishes, FinishesWriting, LinesEnd, ReadsText, StopsInText, moment};
 ghost use Rattle.st_batch.specs.Outcome.{HasNoFeed, IsAnswered, LinesOutcome, Took, around};
-ghost use Rattle.st_batch.specs.LinesSteps.{work_of};
-ghost use Rattle.st_batch.specs.Words.{is_sample};
 
 use crate::answering::Answering;
+use crate::sample::answer_sample;
 use crate::session::Session;
 use crate::status::{Status, stopped_by};
-use st_decimal::{Line, OutOfMemory};
+use st_decimal::{KText, OutOfMemory};
 use st_outside::{Files, Sink, SinkFault, Source};
 use st_text::{line_end, without_cr};
 use st_words::Work;
@@ -33,9 +33,9 @@ pub fn answer_lines<F: Files, I: Source, O: Sink>(
     input: &mut I,
     out: &mut O,
 ) -> Status
-    requires { is_sample session.job.work ≡ false }
+    requires { IsWorkInRange session.job.work }
     ensures told { (before : FilesState) → KeepsFiles before (F.state files.old)
-        → Took (O.bytes out.old) (O.bytes out.new) (LinesOutcome
+        → Took (O.bytes out.old) (O.bytes out.new) (LinesEnd
         (around before (F.state files.new) (I.state input.old) (I.state input.new)) session.job session.loaded result) }
     ensures write_fault { result ≡ Status.WriteFault → Rose (O.faults out.old) (O.faults out.new) }
     ensures read_fault { result ≡ Status.ReadFault → Rose (I.state input.old).faults (I.state input.new).faults }
@@ -44,25 +44,31 @@ pub fn answer_lines<F: Files, I: Source, O: Sink>(
     ensures unread { session.job.work ≢ Work.Batch → I.state input.new ≡ I.state input.old }
     ensures files { KeepsFiles (F.state files.old) (F.state files.new) }
 {
-    let line = match given_line(alloc, &session.job().work) {
-        Ok(line) => line,
+    let work = match copied(alloc, &session.job().work) {
+        Ok(work) => work,
         Err(_) => return Status::OutOfMemory,
     };
     let mut answering = Answering::new(alloc, session);
-    match line {
-        Some(line) => answer_one(&mut answering, line.as_slice(), files, out),
-        None => answer_input(&mut answering, files, input, out),
+    match work {
+        Work::Time(line) => answer_one(&mut answering, line.as_slice(), files, out),
+        Work::Batch => answer_input(&mut answering, files, input, out),
+        Work::Sample { lines, seed } => {
+            answer_sample(alloc, &mut answering.session, lines, seed, files, out)
+        }
     }
 }
 
-/// The one line that is to be answered, where the words give it: the session keeps its own.
-fn given_line(alloc: Global, work: &Work) -> Result<Option<Line>, OutOfMemory>
-    requires { is_sample work.now ≡ false }
-    ensures { IfOk result (λ line. work.now ≡ work_of line) }
+/// A copy: the session keeps its own.
+fn copied(alloc: Global, work: &Work) -> Result<Work, OutOfMemory>
+    ensures { IfOk result (λ copy. copy ≡ work.now) }
 {
     match work {
-        Work::Time(text) => Ok(Some(Line::from_slice(alloc, text.as_slice())?)),
-        Work::Batch | Work::Sample { .. } => Ok(None),
+        Work::Time(text) => Ok(Work::Time(KText::from_slice(alloc, text.as_slice())?)),
+        Work::Batch => Ok(Work::Batch),
+        Work::Sample { lines, seed } => Ok(Work::Sample {
+            lines: *lines,
+            seed: *seed,
+        }),
     }
 }
 

@@ -14,12 +14,12 @@ mod kernel_fault;
 pub mod laws;
 mod load;
 mod refusal;
+mod sample;
 mod session;
 mod setup;
 mod status;
 mod time;
 mod top;
-mod words;
 mod write;
 
 pub use crate::answer::Answer;

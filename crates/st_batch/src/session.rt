@@ -3,6 +3,7 @@
 ghost use Rattle.std.specs.Prelude.{◌≡◌, ◌≢◌, ◌≤◌, true, false, Ok, Err, IfOk, IfErr, OnErr};
 ghost use Rattle.st_answers.specs.Ready.{IsReady};
 ghost use Rattle.st_outside.specs.States.{KeepsFiles};
+ghost use Rattle.st_samples.specs.JobLine.{IsSampleLine};
 ghost use Rattle.st_text.specs.Lines.{trimmed};
 ghost use Rattle.st_words.specs.Job.{IsGoodJob};
 ghost use Rattle.st_batch.specs.Causes.{IsAnswerCaused, IsCaused};
@@ -17,9 +18,10 @@ use crate::fault::LineFault;
 use crate::load::load_file;
 use crate::setup::{find_clock, load_files};
 use crate::time;
-use st_decimal::OutOfMemory;
+use st_decimal::{Line, OutOfMemory};
 use st_outside::Files;
 use st_pool::Pool;
+use st_samples::job_line;
 use st_tables::Tables;
 use st_text::trim;
 use st_words::{Job, setup_files};
@@ -127,6 +129,18 @@ impl Session {
             trim(line),
             files,
         )
+    }
+
+    /// The line that x makes for the job by the loaded kernels, where its lines are those of a sample.
+    ///
+    /// # Errors
+    ///
+    /// Want of memory alone.
+    pub fn sample_line(&mut self, x: u64) -> Result<Line, OutOfMemory>
+        ensures line { IfOk result (IsSampleLine self.old.job self.old.loaded x) }
+        ensures kept { self.new ≡ self.old }
+    {
+        job_line(self.alloc, &self.job, &self.pool, &mut self.tables, x)
     }
 
     /// The answer of a line without its end that begins with `$`: `$load N`, `$unload N` or `$clear`.

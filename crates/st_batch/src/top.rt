@@ -5,27 +5,27 @@ ghost use Rattle.st_outside.specs.Causes.{Rose, RoseBeyond};
 ghost use Rattle.st_outside.specs.States.{KeepsFiles};
 ghost use Rattle.st_batch.specs.Limits.{most_input_bytes};
 ghost use Rattle.st_batch.specs.Outcome.{IsAnswered, Outcome, ReadsNothing, Took, around};
-ghost use Rattle.st_batch.specs.OutputSteps.{Delivers, IsCut};
+ghost use Rattle.st_batch.specs.OutputSteps.{Delivers};
 ghost use Rattle.st_batch.specs.Texts as texts;
 ghost use Rattle.st_words.specs.Job.{IsGoodJob};
-ghost use Rattle.st_batch.specs.Words.{WordsAsk, is_sample};
+ghost use Rattle.st_words.specs.Reading.{WordsGive};
 ghost use Rattle.st_batch.specs.declared.status.Status.TheVariants.{BadSetup, BadWords};
 
 use crate::answer::{put_refused, put_words_refused};
 use crate::fault::LineFault;
 use crate::input::answer_lines;
 use crate::session::Session;
-use crate::status::{Status, stopped_by};
-use crate::words::read_job;
-use crate::write::write_all;
+use crate::status::Status;
+use crate::write::deliver;
 use st_outside::{Files, Sink, Source};
-use st_words::{Job, WordFault};
+use st_words::{Job, WordFault, read_words};
 use std::alloc::Global;
 
 /// Does all that the program does: reads the words, loads the setup, answers the lines and writes the answers.
 ///
-/// The words are those behind the program's name. The lines are the one of the words, or those of the input. All answers
-/// are written before the input is read again. No file that was opened stays open.
+/// The words are those behind the program's name. The lines are the one of the words, those of the input, or those of a
+/// sample, whose answers are summed up. All answers are written before the input is read again. No file that was opened
+/// stays open.
 ///
 /// The result says how the run ended; its number is the program's exit status.
 pub fn run<F: Files, I: Source, O: Sink>(
@@ -49,7 +49,7 @@ pub fn run<F: Files, I: Source, O: Sink>(
 
     ensures files { KeepsFiles (F.state files.old) (F.state files.new) }
 {
-    match read_job(alloc, words) {
+    match read_words(alloc, words) {
         Ok(job) => run_job(alloc, job, files, input, out),
         Err(WordFault::OutOfMemory) => Status::OutOfMemory,
         Err(fault) => refuse_words(alloc, fault, out),
@@ -64,15 +64,14 @@ fn run_job<F: Files, I: Source, O: Sink>(
     input: &mut I,
     out: &mut O,
 ) -> Status
-    requires good { IsGoodJob job }
-    requires built { is_sample job.work ≡ false }
-    ensures told { (words : List (List ℕ)) → WordsAsk words (Ok job) → Took (O.bytes out.old) (O.bytes out.new) (Outcome
+    requires { IsGoodJob job }
+    ensures told { (words : List (List ℕ)) → WordsGive words (Ok job) → Took (O.bytes out.old) (O.bytes out.new) (Outcome
         (around (F.state files.old) (F.state files.new) (I.state input.old) (I.state input.new)) words result) }
     ensures write_fault { result ≡ Status.WriteFault → Rose (O.faults out.old) (O.faults out.new) }
     ensures read_fault { result ≡ Status.ReadFault → Rose (I.state input.old).faults (I.state input.new).faults }
     ensures too_long { result ≡ Status.InputTooLong → RoseBeyond most_input_bytes (I.state input.old).taken (I.state input.new).taken }
     ensures short { IsAnswered result → (I.state input.new).taken ≤ (I.state input.old).taken + most_input_bytes }
-    ensures unread { (words : List (List ℕ)) → WordsAsk words (Ok job) → ReadsNothing words result → I.state input.new ≡ I.state input.old }
+    ensures unread { (words : List (List ℕ)) → WordsGive words (Ok job) → ReadsNothing words result → I.state input.new ≡ I.state input.old }
     ensures files { KeepsFiles (F.state files.old) (F.state files.new) }
 {
     match Session::open(alloc, job, files) {
@@ -109,17 +108,5 @@ fn refuse_setup<O: Sink>(alloc: Global, fault: LineFault, out: &mut O) -> Status
     match put_refused(&mut line, b"bad setup ", &fault) {
         Ok(()) => deliver(out, line.as_slice(), Status::BadSetup(fault)),
         Err(_) => Status::OutOfMemory,
-    }
-}
-
-/// Writes the whole output of a run and ends it so, unless the output or want of memory cuts it off.
-fn deliver<O: Sink>(out: &mut O, output: &[u8], status: Status) -> Status
-    requires { IsCut status → ⊥ }
-    ensures delivers { Delivers output.now status (O.bytes out.old) (O.bytes out.new) result }
-    ensures write_fault { result ≡ Status.WriteFault → Rose (O.faults out.old) (O.faults out.new) }
-{
-    match write_all(out, output) {
-        Ok(()) => status,
-        Err(fault) => stopped_by(fault),
     }
 }

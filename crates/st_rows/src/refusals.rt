@@ -175,7 +175,7 @@ fn setups_with_a_table(rt: HostRuntime) -> Result<(), Fail> {
 }
 
 /// Words that are refused, and the whole output.
-const NO_WORDS: [(&[&str], &str); 9] = [
+const NO_WORDS: [(&[&str], &str); 8] = [
     (&[], "bad words MISSING -setup\n"),
     (
         &["-setup", "naif.tls", "-from", "UTC", "-to", "TAI", "-time"],
@@ -233,13 +233,6 @@ const NO_WORDS: [(&[&str], &str); 9] = [
             "1/0",
         ],
         "bad words CONFLICT -back -format\n",
-    ),
-    // The generated lines are not built yet.
-    (
-        &[
-            "-setup", "naif.tls", "-from", "TAI", "-to", "TT", "-sample", "1", "0",
-        ],
-        "bad words UNKNOWN 7\n",
     ),
 ];
 

@@ -4,12 +4,12 @@ use Rattle.st_batch.specs.declared.status.Status.TheVariants.{BadSetup, ReadFaul
 use Rattle.st_batch.specs.Texts.{setup_line}
 use Rattle.st_batch.specs.Outcome.{around}
 use Rattle.st_batch.proofs.RunLaws.{lines-outcome, no-input, nothing-done, not-answered, not-lines, setup-outcome}
-use Rattle.st_batch.proofs.SetupSteps.{setup-built, setup-work}
+use Rattle.st_batch.proofs.SetupSteps.{setup-range, setup-work}
 use Rattle.st_batch.proofs.top.run_job.Goals as goal
 
 pub answer_lines-requires : goal.answer_lines-requires
 answer_lines-requires g c =
-    setup-built (record { files = (g.F.Files.state c.args.files.now).map; job = c.args.job }) c.in-Ok.session c.in-Ok.ensures.ok c.requires.built
+    setup-range (record { files = (g.F.Files.state c.args.files.now).map; job = c.args.job }) c.in-Ok.session c.in-Ok.ensures.ok c.requires.work
 
 pub returns-in-Ok : goal.returns-in-Ok
 returns-in-Ok g c =

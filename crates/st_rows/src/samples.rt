@@ -1,0 +1,93 @@
+//! Samples: the words, the status, and the line that is written. No input is read: its first read would fail.
+
+use crate::clocks::put_clocks;
+use crate::rows::{Outside, folder, run_row, words};
+use st_batch::Status;
+use std::test::Fail;
+
+/// A read of the input fails.
+const NO_INPUT: Outside = Outside {
+    files: 0,
+    input: 1,
+    output: 0,
+    most: usize::MAX,
+};
+
+const SAMPLES: [(&[&str], Status, &str); 6] = [
+    (
+        &[
+            "-setup", "naif.tls", "-from", "TAI", "-to", "TT", "-sample", "1", "0",
+        ],
+        Status::Done,
+        "sample 1 texts 1 refused 0 sum 871\n",
+    ),
+    (
+        &[
+            "-setup", "naif.tls", "-from", "TAI", "-to", "TT", "-sample", "10000", "7",
+        ],
+        Status::Done,
+        "sample 10000 texts 10000 refused 0 sum 8439686\n",
+    ),
+    (
+        &[
+            "-setup", "naif.tls", "-from", "UTC", "-to", "TAI", "-sample", "1000", "5",
+        ],
+        Status::Done,
+        "sample 1000 texts 1000 refused 0 sum 843548\n",
+    ),
+    (
+        &[
+            "-setup",
+            "mission.setup",
+            "-from",
+            "SCLK",
+            "-to",
+            "ET",
+            "-back",
+            "-sample",
+            "1000",
+            "3",
+        ],
+        Status::SomeRefused,
+        "sample 1000 texts 755 refused 245 sum 2045566\n",
+    ),
+    (
+        &[
+            "-setup",
+            "mission.setup",
+            "-from",
+            "SCLK",
+            "-fromtype",
+            "TICKS",
+            "-to",
+            "SCLK",
+            "-sample",
+            "1000",
+            "3",
+        ],
+        Status::Done,
+        "sample 1000 texts 1000 refused 0 sum 817307\n",
+    ),
+    // There is no clock kernel.
+    (
+        &[
+            "-setup", "naif.tls", "-from", "SCLK", "-sc", "-82", "-to", "ET", "-sample", "3", "0",
+        ],
+        Status::SomeRefused,
+        "sample 3 texts 0 refused 3 sum 8832\n",
+    ),
+];
+
+#[test]
+fn samples(rt: HostRuntime) -> Result<(), Fail> {
+    let alloc = rt.alloc();
+    for (texts, end, wanted) in SAMPLES {
+        let words = words(alloc, texts)?;
+        let mut map = folder(alloc)?;
+        put_clocks(alloc, &mut map)?;
+        let (status, output) = run_row(alloc, words.as_slice(), map, b"", NO_INPUT)?;
+        assert_eq!(rt; status, end, "{wanted}");
+        assert_eq!(rt; output.as_slice(), wanted.as_bytes(), "{wanted}");
+    }
+    Ok(())
+}
