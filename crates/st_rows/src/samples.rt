@@ -11,6 +11,7 @@ const NO_INPUT: Outside = Outside {
     input: 1,
     output: 0,
     most: usize::MAX,
+    streams: usize::MAX,
 };
 
 const SAMPLES: [(&[&str], Status, &str); 6] = [
