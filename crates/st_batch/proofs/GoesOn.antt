@@ -6,14 +6,14 @@ use Rattle.st_batch.specs.declared.answer.Answer.{Answer}
 use Rattle.st_batch.specs.declared.answer.Answer.TheVariants.{Text, Refused}
 use Rattle.st_batch.specs.declared.fault.LineFault.TheVariants as line
 use Rattle.st_batch.specs.Causes.{is_file_fault}
-use Rattle.st_batch.specs.Laws.{EveryBeginningGoesOn, IsReached}
+use Rattle.st_batch.specs.Laws.{EveryBeginningGoesOn}
 use Rattle.st_batch.specs.Session.{MayAnswer, RunsTo}
 use Rattle.st_batch.specs.Setting.{Loaded, Setting}
 use Rattle.st_batch.proofs.LineLaws.{some-answer}
 use Rattle.st_batch.proofs.LinesLaws.{runs-join}
 
 -- an answer that names no fault counts for nothing
-counts-none : (answer : Answer) → answer ≢ Refused line.FileFault → ◌≡◌ {A = ℕ} (cond (is_file_fault answer) 1 0) 0
+pub counts-none : (answer : Answer) → answer ≢ Refused line.FileFault → ◌≡◌ {A = ℕ} (cond (is_file_fault answer) 1 0) 0
 counts-none (Text said) not = refl
 counts-none (Refused line.FileFault) not = absurd (not refl)
 counts-none (Refused line.BadCommand) not = refl
@@ -40,20 +40,6 @@ counts-none (Refused line.BeforeClock) not = refl
 counts-none (Refused line.AfterClock) not = refl
 counts-none (Refused line.Undecided) not = refl
 counts-none (Refused line.OutOfMemory) not = refl
-
--- the loaded list itself is reached, and so is what is reached from the one after the first line
-pub reached-here : (s : Setting) (loaded : Loaded) (lines : List (List ℕ)) → IsReached s loaded lines loaded
-reached-here s loaded lines = record { first = []; more = lines; answers = []; among = refl; answered = refl }
-
-pub reached-later : (s : Setting) (loaded next reached : Loaded) (line : List ℕ) (lines : List (List ℕ)) (answer : Answer) → MayAnswer s loaded line answer next
-    → IsReached s next lines reached → IsReached s loaded (line ∷ lines) reached
-reached-later s loaded next reached line lines answer may r = record {
-  first = line ∷ r.first;
-  more = r.more;
-  answers = answer ∷ r.answers;
-  among = ap (λ (l : List (List ℕ)). line ∷ l) r.among;
-  answered = (next, may, r.answered);
-}
 
 -- lines have answers that name no fault
 record SomeRun (s : Setting) (loaded : Loaded) (lines : List (List ℕ)) : Type 0 where

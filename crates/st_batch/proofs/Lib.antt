@@ -13,6 +13,7 @@ pub mod OneLoad
 pub mod OneOutput
 pub mod OneSetup
 pub mod ReadLaws
+pub mod ReturnedOutput
 pub mod RunLaws
 pub mod SampleCounts
 pub mod SampleLaws

@@ -4,6 +4,7 @@ use Rattle.std.proofs.Common.{◌≡◌, ◌≢◌, ℕ, ◌+◌, cond, count_by
 use Rattle.std.proofs.lemmas.Bool.{false≢true}
 use Rattle.std.proofs.lemmas.List.Sums.{sum_by-cons}
 use Rattle.st_answers.specs.Answer.{AnswerGives}
+use Rattle.st_answers.specs.Laws.{IsExact}
 use Rattle.st_answers.specs.Ready.{IsReady}
 use Rattle.st_answers.specs.declared.fault.AnswerFault.TheVariants as answer
 use Rattle.st_answers.proofs.AnswerLaws.{exact-is-decided, undecided-has-a-sine}
@@ -17,7 +18,7 @@ use Rattle.st_batch.specs.declared.kernel_fault.KernelFault.{KernelFault}
 use Rattle.st_batch.specs.declared.kernel_fault.KernelFault.TheVariants as kernel
 use Rattle.st_batch.specs.declared.fault.LineFault.TheVariants.{FileFault, Undecided}
 use Rattle.st_batch.specs.Causes.{is_file_fault}
-use Rattle.st_batch.specs.Commands.{CommandGives, load_answer, unload_answer}
+use Rattle.st_batch.specs.Commands.{CommandGives, begins_command, load_answer, unload_answer}
 use Rattle.st_batch.specs.Laws.{Agree, ExactIsDecided, IsDecided, OneAnswer, OneDecidedAnswer, OneDecidedRun, UndecidedHasASine}
 use Rattle.st_batch.specs.Session.{MayAnswer, RunsTo, TextGives}
 use Rattle.st_batch.specs.Setting.{Loaded, Setting}
@@ -86,6 +87,17 @@ pub exact-decided : ExactIsDecided
 exact-decided s loaded after line given exact h = λ e.
     let P : Answer → Type 0 = λ a. MayAnswer s loaded line a after in
     absurd (exact-is-decided s.job loaded (trimmed line) (Err (answer.Time time.Undecided)) exact (undecided-time s loaded after line (subst P e h)) refl)
+
+-- a line is decided where no sine stands on the way of the time that it is
+pub line-decided : (s : Setting) (loaded after : Loaded) (line : List ℕ) (given : Answer) → (begins_command (trimmed line) ≡ false → IsExact s.job loaded)
+    → MayAnswer s loaded line given after → IsDecided given
+line-decided s loaded after line given exact h = λ e. by (subst (λ (a : Answer). MayAnswer s loaded line a after) e h)
+  where
+    by : MayAnswer s loaded line (Refused Undecided) after → ⊥
+    by (inl (long, said, left)) = absurd cc
+    by (inr (short, inl (b, c))) = command-decided s.files loaded (trimmed line) after c
+    by (inr (short, inr (b, t, left))) =
+        exact-is-decided s.job loaded (trimmed line) (Err (answer.Time time.Undecided)) (exact b) (time-is-undecided s.job loaded (trimmed line) t) refl
 
 pub one-answer : OneAnswer
 one-answer s files loaded after next line answer other told ready exact h k m n =

@@ -1,9 +1,12 @@
 -- Where the files had no fault, two whole outputs are of answers that agree; where no sine stands on the job's way they are one.
-use Rattle.std.proofs.Common.{◌≡◌, ◌≢◌, ℕ, ◌-◌, ◌^◌, ◌<◌, ◌⊎◌, inl, inr, count_by, Option, Some, Ok, Err, List, [], ◌∷◌, refl, sym, ap, ◌∙◌, subst, arith}
+use Rattle.std.proofs.Common.{◌≡◌, ◌≢◌, ℕ, false, ◌-◌, ◌^◌, ◌<◌, ◌⊎◌, inl, inr, count_by, Option, Some, Ok, Err, List, [], ◌∷◌, refl, sym, ap, ◌∙◌, subst, arith}
+use Rattle.st_answers.specs.Laws.{IsExact}
 use Rattle.st_answers.specs.Ready.{IsReady}
+use Rattle.st_text.specs.Lines.{trimmed}
 use Rattle.st_outside.specs.Causes.{RoseBy}
 use Rattle.st_outside.specs.Entries.{Entries}
 use Rattle.st_batch.specs.declared.answer.Answer.{Answer}
+use Rattle.st_batch.specs.declared.answer.Answer.TheVariants.{Refused}
 use Rattle.st_words.specs.Reading.{WordsGive}
 use Rattle.st_words.specs.declared.fault.WordFault.{WordFault}
 use Rattle.st_batch.specs.declared.fault.LineFault.{LineFault}
@@ -16,15 +19,16 @@ use Rattle.st_samples.proofs.JobLaws.{one-sample}
 use Rattle.st_batch.specs.declared.status.Status.{Status}
 use Rattle.st_batch.specs.declared.status.Status.TheVariants.{Done, SomeRefused, BadWords, BadSetup, ReadFault, WriteFault, OutOfMemory, InputTooLong}
 use Rattle.st_batch.specs.Causes.{IsCaused, is_file_fault}
-use Rattle.st_batch.specs.Laws.{AgreeEach, AgreeOutputs, AreAllExact, IsComplete, IsExactRun, IsTold, OneDecidedOutput, OneOutput}
+use Rattle.st_batch.specs.Commands.{begins_command}
+use Rattle.st_batch.specs.Laws.{AgreeEach, AgreeOutputs, AreAllExact, IsComplete, IsExactRun, IsReached, IsTold, OneDecidedOutput, OneOutput}
 use Rattle.st_batch.specs.Outcome.{Outside, AllAnswered, WordsRefused, SetupRefused, Outcome, output_of, over, status_of}
-use Rattle.st_batch.specs.Session.{RunsTo}
+use Rattle.st_batch.specs.Session.{MayAnswer, RunsTo}
 use Rattle.st_batch.specs.Setting.{Loaded, Setting, State}
 use Rattle.st_batch.specs.Setup.{SetupGives}
 use Rattle.st_batch.specs.Texts.{setup_line, words_line}
 use Rattle.st_batch.specs.Lines.{AreLines, AreLinesBy}
-use Rattle.st_batch.proofs.GoesOn.{reached-here, reached-later}
-use Rattle.st_batch.proofs.OneLine.{decided-run, names-none, one-answer, rest-none}
+use Rattle.st_batch.proofs.GoesOn.{counts-none}
+use Rattle.st_batch.proofs.OneLine.{count-first, decided-run, line-decided, names-none, one-decided, rest-none}
 use Rattle.st_batch.proofs.OneSetup.{not-both, one-refusal, one-setup}
 use Rattle.st_batch.proofs.SetupSteps.{opened-ready}
 use Rattle.st_batch.proofs.WordsLaws.{one-job, one-or-none}
@@ -33,6 +37,24 @@ use Rattle.st_batch.proofs.WordsLaws as words_laws
 -- a count that stood still leaves no answer that names a fault
 none-rose : (n before now : ℕ) → now ≡ before → before < 2 ^ 64 - 1 → RoseBy n before now → n ≡ 0
 none-rose n before now same less h = omega (arith, same, less, h)
+
+-- the loaded list itself is reached by a time that comes first, and so is what is reached from the one after a first line
+reached-here : (s : Setting) (loaded : Loaded) (line : List ℕ) (lines : List (List ℕ)) → begins_command (trimmed line) ≡ false → IsReached s loaded (line ∷ lines) loaded
+reached-here s loaded line lines is-time =
+    record { first = []; line = line; more = lines; answers = []; among = refl; time = is-time; answered = refl; no_fault = refl }
+
+reached-later : (s : Setting) (loaded next reached : Loaded) (line : List ℕ) (lines : List (List ℕ)) (answer : Answer) → MayAnswer s loaded line answer next → answer ≢ Refused FileFault
+    → IsReached s next lines reached → IsReached s loaded (line ∷ lines) reached
+reached-later s loaded next reached line lines answer may not r = record {
+  first = line ∷ r.first;
+  line = r.line;
+  more = r.more;
+  answers = answer ∷ r.answers;
+  among = ap (λ (l : List (List ℕ)). line ∷ l) r.among;
+  time = r.time;
+  answered = (next, may, r.answered);
+  no_fault = omega (arith, count-first answer r.answers, counts-none answer not, r.no_fault);
+}
 
 -- lines have one list of answers
 one-run : (s : Setting) (files : Entries) (loaded : Loaded) (lines : List (List ℕ)) (a b : List Answer) (x y : Loaded) → s.files ≡ Some files → IsReady s.job → AreAllExact s loaded lines
@@ -43,11 +65,13 @@ one-run s files loaded [] (p ∷ a) b x y told ready exact h k m n = absurd h
 one-run s files loaded (line ∷ lines) [] b x y told ready exact h k m n = absurd h
 one-run s files loaded (line ∷ lines) (p ∷ a) [] x y told ready exact h k m n = absurd k
 one-run s files loaded (line ∷ lines) (p ∷ a) (q ∷ b) x y told ready exact (v, may, more) (w, can, rest) m n =
-    let step = one-answer s files loaded v w line p q told ready (exact loaded (reached-here s loaded (line ∷ lines))) may can (names-none p a m) (names-none q b n) in
+    let step = one-decided s files loaded v w line p q told ready may can (names-none p a m) (names-none q b n) in
+    let here : begins_command (trimmed line) ≡ false → IsExact s.job loaded = λ t. exact loaded (reached-here s loaded line lines t) in
+    let first : p ≡ q = step.0 (line-decided s loaded v line p here may) (line-decided s loaded w line q here can) in
     let P : Loaded → Type 0 = λ l. RunsTo s l lines a x in
-    let later : AreAllExact s w lines = λ reached r. exact reached (reached-later s loaded w reached line lines q can r) in
+    let later : AreAllExact s w lines = λ reached r. exact reached (reached-later s loaded w reached line lines q can (names-none q b n) r) in
     let answers = one-run s files w lines a b x y told ready later (subst P step.1 more) rest (rest-none p a m) (rest-none q b n) in
-    λ i. step.0 i ∷ answers i
+    λ i. first i ∷ answers i
 
 one-lines : (work : Work) (job : Job) (loaded : Loaded) (input : List ℕ) (a b : List (List ℕ)) → AreLinesBy work job loaded (Some input) a → AreLinesBy work job loaded (Some input) b → a ≡ b
 one-lines (Time text) job loaded input a b h k = h ∙ sym k

@@ -1,8 +1,9 @@
 -- What the definitions of a run say by themselves, as laws.
-use Rattle.std.specs.Prelude.{◌≡◌, ◌≢◌, ◌⊎◌, ℕ, ◌<◌, ◌^◌, ◌-◌, Option, Some, Result, Ok, Err, List, ◌++◌, [], ◌∷◌, count_by, length, ◌≤◌, ⊤}
+use Rattle.std.specs.Prelude.{◌≡◌, ◌≢◌, ◌⊎◌, ℕ, false, ◌<◌, ◌^◌, ◌-◌, Option, Some, Result, Ok, Err, List, ◌++◌, [], ◌∷◌, count_by, length, ◌≤◌, ⊤}
 use Rattle.st_outside.specs.Entries.{Entries}
 use Rattle.st_answers.specs.Laws.{HasSineThereOrBack, IsExact}
 use Rattle.st_answers.specs.Ready.{IsReady}
+use Rattle.st_text.specs.Lines.{trimmed}
 use Rattle.st_batch.specs.declared.answer.Answer.{Answer}
 use Rattle.st_batch.specs.declared.answer.Answer.TheVariants.{Refused}
 use Rattle.st_batch.specs.declared.kernel_fault.KernelFault.{KernelFault}
@@ -13,6 +14,7 @@ use Rattle.st_words.specs.declared.job.Job.{Job}
 use Rattle.st_batch.specs.declared.status.Status.{Status}
 use Rattle.st_batch.specs.declared.status.Status.TheVariants.{Done, SomeRefused, BadWords, BadSetup, InputTooLong}
 use Rattle.st_batch.specs.Causes.{is_file_fault}
+use Rattle.st_batch.specs.Commands.{begins_command}
 use Rattle.st_batch.specs.Limits.{most_input_bytes}
 use Rattle.st_batch.specs.Lines.{AreLines}
 use Rattle.st_batch.specs.Load.{LoadGives}
@@ -21,7 +23,7 @@ use Rattle.st_batch.specs.Session.{MayAnswer, RunsTo}
 use Rattle.st_batch.specs.Setting.{Loaded, Setting, State}
 use Rattle.st_batch.specs.Setup.{SetupGives}
 
--- the run was not cut off
+-- all lines were answered, or one line says why there are no answers
 abbrev pub IsComplete : Status → Type 0
 IsComplete Done = ⊤
 IsComplete SomeRefused = ⊤
@@ -51,13 +53,17 @@ AgreeEach [] [] = ⊤
 AgreeEach (answer ∷ answers) (other ∷ others) = Agree answer other × AgreeEach answers others
 AgreeEach answers others = ⊥
 
--- answers to some first of these lines lead from a loaded list to another
+-- One of these lines is a time, and answers to those before it, of which none names a fault of the files, lead from a loaded list to
+-- the one by which it is answered.
 pub record IsReached (s : Setting) (loaded : Loaded) (lines : List (List ℕ)) (reached : Loaded) : Type 0 where
   pub first : List (List ℕ)
+  pub line : List ℕ
   pub more : List (List ℕ)
   pub answers : List Answer
-  pub among : lines ≡ first ++ more
+  pub among : lines ≡ first ++ (line ∷ more)
+  pub time : begins_command (trimmed line) ≡ false
   pub answered : RunsTo s loaded first answers reached
+  pub no_fault : count_by is_file_fault answers ≡ 0
 
 -- by each loaded list that is reached no sine stands on the job's way
 abbrev pub AreAllExact : Setting → Loaded → List (List ℕ) → Type 0
@@ -81,7 +87,7 @@ pub record AgreeOutputs (o p : Outside) (words : List (List ℕ)) (first second 
   pub agree : AgreeEach run.answers again.answers
 
 -- Where the files had no fault, two whole outputs that the words, the files and the input allow are one, with one status, or their
--- answers agree: they are one wherever neither is left undecided.
+-- answers agree: each two answers of a line are one unless one of them is left undecided.
 abbrev pub OneDecidedOutput : Type 0
 OneDecidedOutput =
     (o p : Outside) (files : Entries) (input : List ℕ) (words : List (List ℕ)) (first second : Status) (one other : List ℕ)
@@ -90,7 +96,7 @@ OneDecidedOutput =
     → ((first ≡ second) × (one ≡ other)) ⊎ AgreeOutputs o p words first second one other
 
 -- Where the files had no fault, and no sine stands on the job's way, the words, the files and the input allow at most one whole
--- output, with one status, whatever the counts are.
+-- output, with one status, whatever the other counts are.
 abbrev pub OneOutput : Type 0
 OneOutput =
     (o p : Outside) (files : Entries) (input : List ℕ) (words : List (List ℕ)) (first second : Status) (one other : List ℕ)
@@ -118,7 +124,7 @@ OneDecidedRun =
     → s.files ≡ Some files → IsReady s.job → RunsTo s loaded lines answers after → RunsTo s loaded lines others next
     → count_by is_file_fault answers ≡ 0 → count_by is_file_fault others ≡ 0 → AgreeEach answers others × (after ≡ next)
 
--- Where a line is left undecided a sine stands on the job's way.
+-- Where a line is left undecided a sine stands on the job's way, or where that is asked for on its way back.
 abbrev pub UndecidedHasASine : Type 0
 UndecidedHasASine =
     (s : Setting) (loaded after : Loaded) (line : List ℕ) → MayAnswer s loaded line (Refused Undecided) after → HasSineThereOrBack s.job loaded

@@ -1,7 +1,7 @@
 //! Laws of the definitions by which `run` is told. Each function does nothing; its contract is the law.
 
 ghost use Rattle.st_batch.specs.Laws.{EveryBeginningGoesOn, EveryLineHasAnswer, EveryLoadingGives, ExactIsDecided, GoodRunIsAnswered, OneAnswer, OneDecidedAnswer, OneDecidedOutput, OneDecidedRun, OneEnding, OneLoading, OneOutput, UndecidedHasASine};
-ghost use Rattle.st_batch.specs.Returns.{CoveredLineReturns, TdbLineReturns};
+ghost use Rattle.st_batch.specs.Returns.{CoveredLineReturns, CoveredOutputReturns, TdbLineReturns, TdbOutputReturns};
 
 /// Every loading gives a loaded list, or a refusal that names no fault of the files.
 pub fn every_loading_gives()
@@ -86,4 +86,10 @@ pub fn one_output()
 pub fn covered_line_returns()
     ensures answers { CoveredLineReturns }
     ensures tdb { TdbLineReturns }
+{}
+
+/// So it is in whole outputs: of a run that answered all its lines, each such line has such an answer in its place.
+pub fn covered_output_returns()
+    ensures answers { CoveredOutputReturns }
+    ensures tdb { TdbOutputReturns }
 {}
