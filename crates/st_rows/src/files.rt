@@ -74,6 +74,9 @@ pub const WRONG: &[u8] = b"\\begindata\nDELTET/DELTA_AT = 'ten'\n";
 /// `minus.tls`: one more pair, by which a second is removed.
 pub const MINUS: &[u8] = b"\\begindata\nDELTET/DELTA_AT += ( 36, @2030-JAN-1 )\n";
 
+/// `same.tls`: one more pair, by which no second would be inserted.
+pub const SAME: &[u8] = b"\\begindata\nDELTET/DELTA_AT += ( 37, @2030-JAN-1 )\n";
+
 /// `leap.tls`: one more pair, by which two seconds would be inserted.
 pub const LEAP: &[u8] = b"\\begindata\nDELTET/DELTA_AT += ( 39, @2030-JAN-1 )\n";
 

@@ -1,7 +1,7 @@
 //! A row: the words, the files and the input of a run, and how it ends.
 
 use crate::files::{
-    CUT, LEAP, MINUS, MIXED, MORE, NAIF, NO_K, PLAIN, VALUES, WRONG, ZERO, naif_with, short,
+    CUT, LEAP, MINUS, MIXED, MORE, NAIF, NO_K, PLAIN, SAME, VALUES, WRONG, ZERO, naif_with, short,
 };
 use st_batch::{Status, run};
 use st_outside::{FileMap, MemFiles, MemSink, MemSource};
@@ -115,7 +115,7 @@ pub fn folder(alloc: Global) -> Result<FileMap, Fail> {
     map.put(b"empty.ker", Vec::new(alloc))?;
     map.put(b"zero.tls", naif_with(alloc, ZERO)?)?;
     map.put(b"nok.tls", naif_with(alloc, NO_K)?)?;
-    let others: [(&[u8], &[u8]); 8] = [
+    let others: [(&[u8], &[u8]); 9] = [
         (b"more.tls", MORE),
         (b"values.ker", VALUES),
         (b"mixed.ker", MIXED),
@@ -124,6 +124,7 @@ pub fn folder(alloc: Global) -> Result<FileMap, Fail> {
         (b"wrong.ker", WRONG),
         (b"minus.tls", MINUS),
         (b"leap.tls", LEAP),
+        (b"same.tls", SAME),
     ];
     for (name, bytes) in others {
         map.put(name, Vec::from_slice(alloc, bytes)?)?;

@@ -1,18 +1,12 @@
 //! Samples: the words, the status, and the line that is written. No input is read: its first read would fail.
 
 use crate::clocks::put_clocks;
-use crate::rows::{Outside, folder, run_row, words};
+use crate::rows::{Outside, SAFE_AND_SHORT, folder, run_row, words};
 use st_batch::Status;
 use std::test::Fail;
 
-/// A read of the input fails.
-const NO_INPUT: Outside = Outside {
-    files: 0,
-    input: 1,
-    output: 0,
-    most: usize::MAX,
-    streams: usize::MAX,
-};
+/// The first read of the input would fail.
+const FIRST_READ: u32 = 1;
 
 const SAMPLES: [(&[&str], Status, &str); 6] = [
     (
@@ -84,11 +78,17 @@ fn samples(rt: HostRuntime) -> Result<(), Fail> {
     let alloc = rt.alloc();
     for (texts, end, wanted) in SAMPLES {
         let words = words(alloc, texts)?;
-        let mut map = folder(alloc)?;
-        put_clocks(alloc, &mut map)?;
-        let (status, output) = run_row(alloc, words.as_slice(), map, b"", NO_INPUT)?;
-        assert_eq!(rt; status, end, "{wanted}");
-        assert_eq!(rt; output.as_slice(), wanted.as_bytes(), "{wanted}");
+        for outside in SAFE_AND_SHORT {
+            let unread = Outside {
+                input: FIRST_READ,
+                ..outside
+            };
+            let mut map = folder(alloc)?;
+            put_clocks(alloc, &mut map)?;
+            let (status, output) = run_row(alloc, words.as_slice(), map, b"", unread)?;
+            assert_eq!(rt; status, end, "{wanted}");
+            assert_eq!(rt; output.as_slice(), wanted.as_bytes(), "{wanted}");
+        }
     }
     Ok(())
 }
