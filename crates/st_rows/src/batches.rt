@@ -1,8 +1,6 @@
-//! Batches, mostly from UTC to TAI with the setup `naif.tls`: the lines of the input, and their answers.
+//! Batches from UTC to TAI with the setup `naif.tls`: the lines of the input, and their answers.
 
-use crate::rows::{
-    Outside, SAFE_AND_SHORT, SHORT, add_word, batch, folder, run_batch, run_row, words,
-};
+use crate::rows::{Outside, SAFE_AND_SHORT, SHORT, batch, folder, run_batch, run_row};
 use st_batch::{LineFault, Status};
 use std::alloc::Global;
 use std::test::Fail;
@@ -150,43 +148,6 @@ const SESSIONS: [(&str, Status, &[(&str, &str)]); 12] = [
         ],
     ),
 ];
-
-/// A picture, where there is one, and how the times about a removed second are printed in UTC.
-const REMOVED: [(&[&str], &str); 2] = [
-    (
-        &[],
-        "loaded\n2029-12-31T23:59:58.500\n2030-01-01T00:00:00.000\n",
-    ),
-    (
-        &["-format", "YYYY-MM-DDTHR:MN:SC::RND"],
-        "loaded\n2030-01-01T00:00:00\n2030-01-01T00:00:00\n",
-    ),
-];
-
-#[test]
-fn a_removed_second_is_not_printed(rt: HostRuntime) -> Result<(), Fail> {
-    let alloc = rt.alloc();
-    let lines = b"$load minus.tls\n946728035.5\n946728036\n".as_slice();
-    for (picture, wanted) in REMOVED {
-        let shape = ["-setup", "naif.tls", "-from", "TAI", "-to", "UTC", "-batch"];
-        let mut asked = words(alloc, shape.as_slice())?;
-        for word in picture {
-            add_word(alloc, &mut asked, word)?;
-        }
-        for outside in SAFE_AND_SHORT {
-            let (status, output) = run_row(
-                alloc,
-                asked.as_slice(),
-                folder(alloc)?,
-                lines,
-                outside,
-            )?;
-            assert_eq!(rt; status, Status::Done);
-            assert_eq!(rt; output.as_slice(), wanted.as_bytes());
-        }
-    }
-    Ok(())
-}
 
 #[test]
 fn sessions(rt: HostRuntime) -> Result<(), Fail> {
