@@ -1,10 +1,11 @@
 pub mod AnswerLaws
 pub mod Answered
 pub mod BackTables
-pub mod Carried
 pub mod FixedRead
 pub mod Found
 pub mod Known
+pub mod LentLaws
+pub mod LentSteps
 pub mod Moved
 pub mod MovedTables
 pub mod OneAnswer

@@ -19,34 +19,19 @@ use Rattle.st_words.specs.declared.job.ToKind.TheVariants as to
 use Rattle.st_words.specs.Job.{IsTarget}
 use Rattle.st_answers.specs.Answer.{IsTargetOf}
 use Rattle.st_answers.specs.Asked.{AreTables, Tables}
-use Rattle.st_answers.specs.AskedSteps.{ByTables, ClockPrintIs, PrintIs, pairs_in}
+use Rattle.st_answers.specs.AskedSteps.{ClockPrintIs, PrintIs}
 use Rattle.st_answers.specs.Sides.{is_clock}
 use Rattle.st_answers.specs.declared.fault.AnswerFault.{AnswerFault}
 use Rattle.st_answers.specs.declared.fault.AnswerFault.TheVariants.{Table, Time, OutOfMemory}
 use Rattle.st_answers.proofs.Moved.{point-is, same-printed, same-source}
 use Rattle.st_answers.proofs.Sides.{target-clock, target-ticks}
 
--- the pairs of what is lent
-pub pairs-shown : (o : Option (Bor LeapTable)) → option_map (λ x. pairs_of x.now) o ≡ option_map pairs_of (option_map (λ x. x.now) o)
-pairs-shown None = refl
-pairs-shown (Some x) = refl
-
-pub picture-printed : (job : Job) (route : Route) (time : Point) (picture : Picture) (o : Option (Bor LeapTable)) (x : Result (List ℕ) TimeFault) (tables : Tables)
-    → job.shape ≡ to.Pictured picture → pairs_in tables ≡ option_map (λ x. pairs_of x.now) o → time.part < time.of
-    → RouteGives route (value_of time) (by_picture picture (option_map (λ x. x.now) o)) x → PrintIs job route time tables x
-picture-printed job route time picture o x tables shape pairs part gives = λ r point.
+pub picture-printed : (job : Job) (route : Route) (time : Point) (picture : Picture) (x : Result (List ℕ) TimeFault) (tables : Tables)
+    → job.shape ≡ to.Pictured picture → time.part < time.of → RouteGives route (value_of time) (by_picture picture tables.leaps) x → PrintIs job route time tables x
+picture-printed job route time picture x tables shape part gives = λ r point.
     let target = by_picture picture tables.leaps in
     let P : ToKind → Type 0 = λ s. IsTargetOf s tables target in
-    let moved = same-printed route (value_of time) picture (option_map (λ x. x.now) o) tables.leaps x (sym (pairs ∙ pairs-shown o)) gives in
-    (target, subst P (sym shape) refl, same-source route (value_of time) r target x (point-is time part) point.positive (same_sym r (value_of time) point.same) moved)
-
--- what is so by all tables leads to what is so by all tables
-pub by-map : {A : Type 0} (job : Job) (loaded : Loaded) (From To : Tables → Result A TimeFault → Type 0) (r : Result A AnswerFault)
-    → ((tables : Tables) (x : Result A TimeFault) → AreTables job loaded tables → From tables x → To tables x) → ByTables job loaded From r → ByTables job loaded To r
-by-map job loaded From To (Ok x) f h = λ tables are. f tables (Ok x) are (h tables are)
-by-map job loaded From To (Err (Time fault)) f (not, h) = (not, λ tables are. f tables (Err fault) are (h tables are))
-by-map job loaded From To (Err (Table fault)) f h = h
-by-map job loaded From To (Err OutOfMemory) f h = tt
+    (target, subst P (sym shape) refl, same-source route (value_of time) r target x (point-is time part) point.positive (same_sym r (value_of time) point.same) gives)
 
 and-left : (a b : Bool) → (a && b) ≡ false → b ≡ true → a ≡ false
 and-left true b e t = absurd (false≢true (sym e ∙ t))
@@ -56,24 +41,20 @@ clock-target : (job : Job) (kind : ToKind) → (IsTarget job.to kind → is_cloc
     → (is_clock job.from && is_clock job.to) ≡ false → is_clock job.from ≡ false
 clock-target job kind is target shape one = and-left (is_clock job.from) (is_clock job.to) one (is (subst (λ (k : ToKind). IsTarget job.to k) shape target))
 
-pub strings-printed : (job : Job) (loaded : Loaded) (route : Route) (time : Point) (r : Result (List ℕ) AnswerFault) → IsTarget job.to job.shape → job.shape ≡ to.Clock
-    → (is_clock job.from && is_clock job.to) ≡ false → ByTables job loaded (ClockPrintIs route time.units tick.Clock) r → ByTables job loaded (PrintIs job route time) r
-strings-printed job loaded route time r target shape one h =
-    let not = clock-target job to.Clock (target-clock job.to) target shape one in
-    by-map job loaded (ClockPrintIs route time.units tick.Clock) (PrintIs job route time) r
-    (λ tables x are (clock, is, gives) s point. (
+pub strings-printed : (job : Job) (route : Route) (time : Point) (tables : Tables) (x : Result (List ℕ) TimeFault) → IsTarget job.to job.shape → job.shape ≡ to.Clock
+    → (is_clock job.from && is_clock job.to) ≡ false → ClockPrintIs route time.units tick.Clock tables x → PrintIs job route time tables x
+strings-printed job route time tables x target shape one (clock, is, gives) = λ s point.
+    let not = clock-target job to.Clock (target-clock job.to) target shape one in (
       by_clock clock tick.Clock,
       subst (λ (k : ToKind). IsTargetOf k tables (by_clock clock tick.Clock)) (sym shape) (clock, is, refl),
       subst (λ (v : Fraction). RouteGives route v (by_clock clock tick.Clock) x) (sym (point.whole not)) gives,
-    )) h
+    )
 
-pub ticks-printed : (job : Job) (loaded : Loaded) (route : Route) (time : Point) (r : Result (List ℕ) AnswerFault) → IsTarget job.to job.shape → job.shape ≡ to.Ticks
-    → (is_clock job.from && is_clock job.to) ≡ false → ByTables job loaded (ClockPrintIs route time.units tick.Ticks) r → ByTables job loaded (PrintIs job route time) r
-ticks-printed job loaded route time r target shape one h =
-    let not = clock-target job to.Ticks (target-ticks job.to) target shape one in
-    by-map job loaded (ClockPrintIs route time.units tick.Ticks) (PrintIs job route time) r
-    (λ tables x are (clock, is, gives) s point. (
+pub ticks-printed : (job : Job) (route : Route) (time : Point) (tables : Tables) (x : Result (List ℕ) TimeFault) → IsTarget job.to job.shape → job.shape ≡ to.Ticks
+    → (is_clock job.from && is_clock job.to) ≡ false → ClockPrintIs route time.units tick.Ticks tables x → PrintIs job route time tables x
+ticks-printed job route time tables x target shape one (clock, is, gives) = λ s point.
+    let not = clock-target job to.Ticks (target-ticks job.to) target shape one in (
       by_clock clock tick.Ticks,
       subst (λ (k : ToKind). IsTargetOf k tables (by_clock clock tick.Ticks)) (sym shape) (clock, is, refl),
       subst (λ (v : Fraction). RouteGives route v (by_clock clock tick.Ticks) x) (sym (point.whole not)) gives,
-    )) h
+    )

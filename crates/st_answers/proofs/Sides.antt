@@ -21,7 +21,7 @@ use Rattle.st_words.specs.declared.time_type.TimeType.{TimeType}
 use Rattle.st_words.specs.declared.time_type.TimeType.TheVariants.{Scet, Seconds as InSeconds, Sclk as InStrings, Ticks as InTicks}
 use Rattle.st_answers.specs.Answer.{IsRouteBy, IsRouteOf, IsScaleOf, back_job}
 use Rattle.st_answers.specs.Asked.{AreTables, GivesWhere, Tables}
-use Rattle.st_answers.specs.AskedSteps.{ClockScaleIs, scale_with}
+use Rattle.st_answers.specs.AskedSteps.{ClockScaleIs, HasClockFor, scale_with}
 use Rattle.st_answers.specs.Ready.{IsReady}
 use Rattle.st_answers.specs.Sides.{has_clock, is_clock}
 
@@ -93,7 +93,7 @@ has-table job loaded tables are asks = by (has_clock job) (λ r. (n : ℕ) × (j
     by false P e o h = absurd (false≢true e)
 
 -- the scale of a side
-pub scale-is : (system : System) (tables : Tables) (scale : Scale) → ClockScaleIs tables (Ok scale) → (is_clock system ≡ true → (k : Clock) × (tables.clock ≡ Some k))
+pub scale-is : (system : System) (tables : Tables) (scale : Scale) → ClockScaleIs tables scale → (is_clock system ≡ true → (k : Clock) × (tables.clock ≡ Some k))
     → IsScaleOf system tables (scale_with system scale)
 scale-is Utc tables scale is has = refl
 scale-is Tai tables scale is has = refl
@@ -129,17 +129,16 @@ back-ready job ready back =
       back = λ e. absurd (false≢true e);
     }
 
-pub route-is : (job : Job) (loaded : Loaded) (tables : Tables) (constants : Option Deltet) (x : Deltet) (scale a b : Scale) → AreTables job loaded tables
-    → tables.constants ≡ constants → constants ≡ Some x → ClockScaleIs tables (Ok scale) → a ≡ scale_with job.from scale → b ≡ scale_with job.to scale
-    → IsRouteOf job tables (Scales x a b)
-route-is job loaded tables constants x scale a b are same some is from to =
+pub route-is : (job : Job) (tables : Tables) (x : Deltet) (scale a b : Scale) → HasClockFor tables (has_clock job) → tables.constants ≡ Some x
+    → ClockScaleIs tables scale → a ≡ scale_with job.from scale → b ≡ scale_with job.to scale → IsRouteOf job tables (Scales x a b)
+route-is job tables x scale a b has some is from to =
     let P : Option Deltet → Type 0 = λ c. IsRouteBy c job.from job.to tables (Scales x a b) in
     let From : Scale → Type 0 = λ s. IsScaleOf job.from tables s in
     let To : Scale → Type 0 = λ s. IsScaleOf job.to tables s in
-    subst P (sym (same ∙ some)) (
+    subst P (sym some) (
       a,
       b,
-      subst From (sym from) (scale-is job.from tables scale is (λ e. has-table job loaded tables are (from-asks job e))),
-      subst To (sym to) (scale-is job.to tables scale is (λ e. has-table job loaded tables are (to-asks job e))),
+      subst From (sym from) (scale-is job.from tables scale is (λ e. has (from-asks job e))),
+      subst To (sym to) (scale-is job.to tables scale is (λ e. has (to-asks job e))),
       refl,
     )

@@ -1,18 +1,25 @@
 //! The tables that a job asks for.
 
-ghost use Rattle.std.specs.Prelude.{◌≡◌, ◌&&◌};
-ghost use Rattle.st_answers.specs.Asked.{ClockOf, ConstantsOf, LeapsOf};
-ghost use Rattle.st_answers.specs.AskedSteps.{Finds, pairs_in, shown_option, shown_pairs};
+ghost use Rattle.std.specs.Prelude.{◌≡◌, ◌&&◌, true, Ok, IfErr, OnOk, option_map};
+ghost use Rattle.st_answers.specs.Asked.{AreTables, ClockOf, ConstantsOf, FirstRefusal, LeapsOf};
+ghost use Rattle.st_answers.specs.AskedSteps.{FindsClock, FindsConstants, FindsLeaps, HasFound, IsLater, shown};
 ghost use Rattle.st_answers.specs.Ready.{IsReady};
 ghost use Rattle.st_answers.specs.Sides as sides;
 
 use st_clock::Clock;
 use st_dates::System;
 use st_leaps::LeapTable;
-use st_pool::Pool;
 use st_scales::Deltet;
-use st_tables::{TableFault, Tables};
+use st_tables::{Kernels, TableFault};
 use st_words::Job;
+
+/// The tables that a job asks for, lent by the loaded kernels that gave them.
+#[derive(Clone, Copy)]
+pub struct Lent<'a> {
+    pub leaps: Option<&'a LeapTable>,
+    pub constants: Option<&'a Deltet>,
+    pub clock: Option<&'a Clock>,
+}
 
 /// Whether a side of the job is UTC.
 fn has_utc(job: &Job) -> bool
@@ -52,66 +59,107 @@ fn share_scale(from: System, to: System) -> bool
     }
 }
 
-/// The table of leap seconds, where the job asks for it.
-pub fn leaps_of<'a>(
-    job: &Job,
-    pool: &Pool,
-    tables: &'a mut Tables,
-) -> Result<Option<&'a LeapTable>, TableFault>
-    ensures gives { LeapsOf job.now pool.now (shown_option result) }
-    ensures finds { Finds job.now pool.now pairs_in (shown_pairs result) }
+/// Finds the tables that the job asks for, in their order: that of leap seconds, the constants, the clock.
+///
+/// # Errors
+///
+/// The first refusal of a table.
+pub fn find_tables(job: &Job, kernels: &mut Kernels) -> Result<(), TableFault>
+    requires { IsReady job.now }
+    ensures found { OnOk result (HasFound job.now kernels.new) }
+    ensures err { IfErr result (FirstRefusal job.now kernels.old.loaded) }
+    ensures loaded { kernels.new.loaded ≡ kernels.old.loaded }
 {
-    if !has_utc(job) {
-        return Ok(None);
+    find_leaps(job, kernels)?;
+    find_constants(job, kernels)?;
+    find_clock(job, kernels)
+}
+
+/// Finds the table of leap seconds, where the job asks for it.
+fn find_leaps(job: &Job, kernels: &mut Kernels) -> Result<(), TableFault>
+    ensures gives { FindsLeaps job.now kernels.old.loaded result }
+    ensures found { OnOk result (sides.has_utc job.now ≡ true → kernels.new.leaps ≡ true) }
+    ensures later { IsLater kernels.old kernels.new }
+{
+    if has_utc(job) {
+        kernels.find_leaps()
+    } else {
+        Ok(())
     }
-    match tables.leaps(pool) {
-        Ok(table) => Ok(Some(table)),
-        Err(fault) => Err(fault),
+}
+
+/// Finds the constants of the scales, where the job asks for them.
+fn find_constants(job: &Job, kernels: &mut Kernels) -> Result<(), TableFault>
+    ensures gives { FindsConstants job.now kernels.old.loaded result }
+    ensures found { OnOk result (sides.needs_constants job.now ≡ true → kernels.new.constants ≡ true) }
+    ensures later { IsLater kernels.old kernels.new }
+{
+    if needs_constants(job) {
+        kernels.find_deltet()
+    } else {
+        Ok(())
+    }
+}
+
+/// Finds the clock, where the job asks for it.
+fn find_clock(job: &Job, kernels: &mut Kernels) -> Result<(), TableFault>
+    requires { IsReady job.now }
+    ensures gives { FindsClock job.now kernels.old.loaded result }
+    ensures found { OnOk result (sides.has_clock job.now ≡ true → kernels.new.clock ≡ job.now.clock) }
+    ensures later { IsLater kernels.old kernels.new }
+{
+    match job.clock {
+        Some(n) if has_clock(job) => kernels.find_clock(n),
+        _ => Ok(()),
+    }
+}
+
+/// The tables that the job asks for, which are found.
+pub fn lend<'a>(job: &Job, kernels: &'a Kernels) -> Lent<'a>
+    requires ready { IsReady job.now }
+    requires found { HasFound job.now kernels.now }
+    ensures { AreTables job.now kernels.now.loaded (shown result) }
+{
+    Lent {
+        leaps: lend_leaps(job, kernels),
+        constants: lend_constants(job, kernels),
+        clock: lend_clock(job, kernels),
+    }
+}
+
+/// The table of leap seconds, where the job asks for it.
+fn lend_leaps<'a>(job: &Job, kernels: &'a Kernels) -> Option<&'a LeapTable>
+    requires { HasFound job.now kernels.now }
+    ensures { LeapsOf job.now kernels.now.loaded (Ok (option_map (λ t. t.now) result)) }
+{
+    if has_utc(job) {
+        Some(kernels.leaps())
+    } else {
+        None
     }
 }
 
 /// The constants of the scales, where the job asks for them.
-pub fn constants_of(
-    job: &Job,
-    pool: &Pool,
-    tables: &mut Tables,
-) -> Result<Option<Deltet>, TableFault>
-    ensures gives { ConstantsOf job.now pool.now result }
-    ensures finds { Finds job.now pool.now (λ t. t.constants) result }
+fn lend_constants<'a>(job: &Job, kernels: &'a Kernels) -> Option<&'a Deltet>
+    requires { HasFound job.now kernels.now }
+    ensures { ConstantsOf job.now kernels.now.loaded (Ok (option_map (λ t. t.now) result)) }
 {
-    if !needs_constants(job) {
-        return Ok(None);
+    if needs_constants(job) {
+        Some(kernels.deltet())
+    } else {
+        None
     }
-    match tables.deltet(pool) {
-        Ok(constants) => Ok(Some(copied(constants))),
-        Err(fault) => Err(fault),
-    }
-}
-
-fn copied(constants: &Deltet) -> Deltet
-    ensures { result ≡ constants.now }
-{
-    *constants
 }
 
 /// The clock, where the job asks for it.
-pub fn clock_of<'a>(
-    job: &Job,
-    pool: &Pool,
-    tables: &'a mut Tables,
-) -> Result<Option<&'a Clock>, TableFault>
-    requires { IsReady job.now }
-    ensures gives { ClockOf job.now pool.now (shown_option result) }
-    ensures finds { Finds job.now pool.now (λ t. t.clock) (shown_option result) }
+fn lend_clock<'a>(job: &Job, kernels: &'a Kernels) -> Option<&'a Clock>
+    requires ready { IsReady job.now }
+    requires found { HasFound job.now kernels.now }
+    ensures { ClockOf job.now kernels.now.loaded (Ok (option_map (λ t. t.now) result)) }
 {
-    let Some(n) = job.clock else {
-        return Ok(None);
-    };
-    if !has_clock(job) {
-        return Ok(None);
-    }
-    match tables.clock(pool, n) {
-        Ok(clock) => Ok(Some(clock)),
-        Err(fault) => Err(fault),
+    if has_clock(job) {
+        Some(kernels.clock())
+    } else {
+        None
     }
 }

@@ -44,10 +44,10 @@ text-line s loaded after line text (Ok answer) short same given =
 text-line s loaded after line text (Err error) short same given = tt
 
 -- the answer of a time is that of its text
-pub time-text : {E : Type 0} (files : Option Entries) (job : Job) (loaded : Loaded) (text : List ℕ) (r : Result Answer E) → begins_command text ≡ false
-    → IfOk r (TimeGives job loaded text) → IfOk r (λ answer. TextGives (record { files = files; job = job }) loaded text answer loaded)
-time-text files job loaded text (Ok answer) time given = inr (time, given, refl)
-time-text files job loaded text (Err error) time given = tt
+pub time-text : {E : Type 0} (files : Option Entries) (job : Job) (loaded after : Loaded) (text : List ℕ) (r : Result Answer E) → begins_command text ≡ false
+    → IfOk r (TimeGives job loaded text) → after ≡ loaded → IfOk r (λ answer. TextGives (record { files = files; job = job }) loaded text answer after)
+time-text files job loaded after text (Ok answer) time given left = inr (time, given, left)
+time-text files job loaded after text (Err error) time given left = tt
 
 -- and wants no cause
 pub time-caused : {E : Type 0} (job : Job) (loaded : Loaded) (text : List ℕ) (before now : FileCounts) (r : Result Answer E) → IfOk r (TimeGives job loaded text)

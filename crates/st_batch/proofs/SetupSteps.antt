@@ -189,6 +189,12 @@ loads-stop a b from now names i d name fault within is same go h not =
     let given = subst Q is (subst (λ (f : Option Entries). LoadGives f now name (Err fault)) same (h not)) in
     go (Err fault) (subst P (sym (drop_more names i d within)) (inl (fault, given, refl)))
 
+pub files-seen : (seen loaded : Loaded) (r : Result (List (List ℕ)) SetupFault) → seen ≡ loaded → SetupFiles seen r → SetupFiles loaded r
+files-seen seen loaded r e h = subst (λ (l : Loaded). SetupFiles l r) e h
+
+pub clock-seen : (asks : Bool) (job : Job) (seen loaded : Loaded) (r : Result Job IdFault) → seen ≡ loaded → ClockGives asks job seen r → ClockGives asks job loaded r
+clock-seen asks job seen loaded r e h = subst (λ (l : Loaded). ClockGives asks job l r) e h
+
 pub names-seen : (a : Option Entries) (first : Loaded) (seen names : List (List ℕ)) (r : Result Loaded KernelFault) → seen ≡ names → LoadsGive a first seen r → LoadsGive a first names r
 names-seen a first seen names r e h = subst (λ (l : List (List ℕ)). LoadsGive a first l r) e h
 

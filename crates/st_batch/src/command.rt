@@ -13,7 +13,8 @@ use crate::kernel_fault::KernelFault;
 use crate::load::load_file;
 use st_decimal::OutOfMemory;
 use st_outside::Files;
-use st_pool::{NotLoaded, Pool};
+use st_pool::NotLoaded;
+use st_tables::Kernels;
 use st_text::skip_blanks;
 use std::alloc::{AllocError, Global};
 use std::str;
@@ -31,24 +32,24 @@ pub fn is_command(text: &[u8]) -> bool
 /// The answer of a text that begins with `$`, and what it does to the loaded kernels.
 pub fn answer_command<F: Files>(
     alloc: Global,
-    pool: &mut Pool,
+    kernels: &mut Kernels,
     text: &[u8],
     files: &mut F,
 ) -> Result<Answer, OutOfMemory>
-    ensures answered { IfOk result (λ answer. CommandGives (F.state files.old).map pool.old text.now answer pool.new) }
-    ensures err { OnErr result (pool.new ≡ pool.old) }
+    ensures answered { IfOk result (λ answer. CommandGives (F.state files.old).map kernels.old.loaded text.now answer kernels.new.loaded) }
+    ensures err { OnErr result (kernels.new.loaded ≡ kernels.old.loaded) }
     ensures cause { IfOk result (λ answer. IsAnswerCaused answer (F.state files.old).counts (F.state files.new).counts) }
     ensures files { KeepsFiles (F.state files.old) (F.state files.new) }
     ensures unread { IsNoLoad text.now → F.state files.new ≡ F.state files.old }
 {
     if let Some(name) = name_behind(b"$load", text) {
-        return load_named(alloc, pool, name, files);
+        return load_named(alloc, kernels, name, files);
     }
     if let Some(name) = name_behind(b"$unload", text) {
-        return unload_named(alloc, pool, name);
+        return unload_named(alloc, kernels, name);
     }
     if text == b"$clear".as_slice() {
-        return clear_all(alloc, pool);
+        return clear_all(alloc, kernels);
     }
     Ok(Answer::Refused(LineFault::BadCommand))
 }
@@ -56,17 +57,17 @@ pub fn answer_command<F: Files>(
 /// Loads the file of this name.
 fn load_named<F: Files>(
     alloc: Global,
-    pool: &mut Pool,
+    kernels: &mut Kernels,
     name: &[u8],
     files: &mut F,
 ) -> Result<Answer, OutOfMemory>
-    ensures answered { IfOk result (λ answer. LoadAnswers (F.state files.old).map pool.old name.now answer pool.new) }
-    ensures err { OnErr result (pool.new ≡ pool.old) }
+    ensures answered { IfOk result (λ answer. LoadAnswers (F.state files.old).map kernels.old.loaded name.now answer kernels.new.loaded) }
+    ensures err { OnErr result (kernels.new.loaded ≡ kernels.old.loaded) }
     ensures cause { IfOk result (λ answer. IsAnswerCaused answer (F.state files.old).counts (F.state files.new).counts) }
     ensures files { KeepsFiles (F.state files.old) (F.state files.new) }
 {
     let answer = said(alloc, b"loaded")?;
-    match load_file(alloc, pool, name, files) {
+    match load_file(alloc, kernels, name, files) {
         Ok(()) => Ok(answer),
         Err(fault) => refused(fault),
     }
@@ -83,25 +84,25 @@ fn refused(fault: KernelFault) -> Result<Answer, OutOfMemory>
 }
 
 /// Unloads the last loaded kernel of this name.
-fn unload_named(alloc: Global, pool: &mut Pool, name: &[u8]) -> Result<Answer, OutOfMemory>
-    ensures answered { IfOk result (λ answer. UnloadAnswers pool.old name.now answer pool.new) }
-    ensures err { OnErr result (pool.new ≡ pool.old) }
+fn unload_named(alloc: Global, kernels: &mut Kernels, name: &[u8]) -> Result<Answer, OutOfMemory>
+    ensures answered { IfOk result (λ answer. UnloadAnswers kernels.old.loaded name.now answer kernels.new.loaded) }
+    ensures err { OnErr result (kernels.new.loaded ≡ kernels.old.loaded) }
 {
     let answer = said(alloc, b"unloaded")?;
-    match pool.unload(name) {
+    match kernels.unload(name) {
         Ok(()) => Ok(answer),
         Err(NotLoaded) => Ok(Answer::Refused(LineFault::NotLoaded)),
     }
 }
 
 /// Unloads all kernels.
-fn clear_all(alloc: Global, pool: &mut Pool) -> Result<Answer, OutOfMemory>
+fn clear_all(alloc: Global, kernels: &mut Kernels) -> Result<Answer, OutOfMemory>
     ensures answered { IfOk result (λ answer. answer ≡ Text (codes "cleared")) }
-    ensures cleared { IfOk result (λ answer. pool.new ≡ []) }
-    ensures err { OnErr result (pool.new ≡ pool.old) }
+    ensures cleared { IfOk result (λ answer. kernels.new.loaded ≡ []) }
+    ensures err { OnErr result (kernels.new.loaded ≡ kernels.old.loaded) }
 {
     let answer = said(alloc, b"cleared")?;
-    pool.clear();
+    kernels.clear();
     Ok(answer)
 }
 

@@ -12,7 +12,7 @@ ghost use Rattle.st_batch.specs.Setting.{Loaded};
 use crate::kernel_fault::KernelFault;
 use st_kernel_text::{AssignmentList, KernelReader};
 use st_outside::{Files, OpenFault};
-use st_pool::Pool;
+use st_tables::Kernels;
 use std::alloc::Global;
 
 /// The most bytes that a file may have.
@@ -21,27 +21,27 @@ pub const MAX_FILE: usize = 16_777_216;
 /// How many bytes of a file are read at a time.
 const PIECE: usize = 4096;
 
-/// Loads the file of this name behind all kernels of the pool. No file is open afterwards.
+/// Loads the file of this name behind all loaded kernels. No file is open afterwards.
 ///
 /// # Errors
 ///
-/// Why it isn't loaded; the pool is then as before.
+/// Why it isn't loaded; all kernels are then as before.
 pub fn load_file<F: Files>(
     alloc: Global,
-    pool: &mut Pool,
+    kernels: &mut Kernels,
     name: &[u8],
     files: &mut F,
 ) -> Result<(), KernelFault>
-    ensures ok { OnOk result (LoadGives (F.state files.old).map pool.old name.now (Ok pool.new)) }
-    ensures err { IfErr result (λ fault. fault ≢ KernelFault.OutOfMemory → LoadGives (F.state files.old).map pool.old name.now (Err fault)) }
-    ensures refused { OnErr result (pool.new ≡ pool.old) }
+    ensures ok { OnOk result (LoadGives (F.state files.old).map kernels.old.loaded name.now (Ok kernels.new.loaded)) }
+    ensures err { IfErr result (λ fault. fault ≢ KernelFault.OutOfMemory → LoadGives (F.state files.old).map kernels.old.loaded name.now (Err fault)) }
+    ensures refused { OnErr result (kernels.new ≡ kernels.old) }
     ensures cause { IfErr result (λ fault. IsCaused (line_fault fault) (F.state files.old).counts (F.state files.new).counts) }
     ensures clean { OnOk result ((F.state files.new).counts.faults ≡ (F.state files.old).counts.faults) }
     ensures closed { (F.state files.new).opened ≡ false }
     ensures files { KeepsFiles (F.state files.old) (F.state files.new) }
 {
     let assignments = read_file(alloc, name, files)?;
-    pool.load(name, assignments)?;
+    kernels.load(name, assignments)?;
     Ok(())
 }
 

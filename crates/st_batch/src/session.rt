@@ -22,7 +22,7 @@ use st_decimal::{Line, OutOfMemory};
 use st_outside::Files;
 use st_pool::Pool;
 use st_samples::job_line;
-use st_tables::Tables;
+use st_tables::Kernels;
 use st_text::trim;
 use st_words::{Job, setup_files};
 use std::alloc::Global;
@@ -37,8 +37,7 @@ pub const MAX_LINE: usize = 1000;
 pub struct Session {
     alloc: Global,
     job: Job,
-    pool: Pool,
-    tables: Tables,
+    kernels: Kernels,
 }
 
 impl Model for Session {
@@ -47,7 +46,7 @@ impl Model for Session {
 
     ghost Value = { State };
 
-    ghost view = { λ s. record { job = s.job; loaded = s.pool } };
+    ghost view = { λ s. record { job = s.job; loaded = s.kernels.loaded } };
 
     ghost invariant = { λ s. IsReady s.job };
 }
@@ -71,16 +70,15 @@ impl Session {
         ensures closed { (F.state files.new).opened ≡ false }
         ensures files { KeepsFiles (F.state files.old) (F.state files.new) }
     {
-        let mut pool = Pool::new(alloc);
-        load_file(alloc, &mut pool, job.setup.as_slice(), files)?;
-        let names = setup_files(alloc, &pool)?;
-        let job = find_clock(job, &pool)?;
-        load_files(alloc, &mut pool, names.as_slice(), files)?;
+        let mut kernels = Kernels::new(alloc);
+        load_file(alloc, &mut kernels, job.setup.as_slice(), files)?;
+        let names = setup_files(alloc, kernels.pool())?;
+        let job = find_clock(job, kernels.pool())?;
+        load_files(alloc, &mut kernels, names.as_slice(), files)?;
         Ok(Session {
             alloc,
             job,
-            pool,
-            tables: Tables::new(alloc),
+            kernels,
         })
     }
 
@@ -95,7 +93,7 @@ impl Session {
     pub fn pool(&self) -> &Pool
         ensures { result.now ≡ self.now.loaded }
     {
-        &self.pool
+        self.kernels.pool()
     }
 
     /// The answer of a line without its end: of a command that begins with `$`, or of a time.
@@ -121,14 +119,7 @@ impl Session {
         if line.len() > MAX_LINE {
             return Ok(Answer::Refused(LineFault::LineTooLong));
         }
-        answer_text(
-            self.alloc,
-            &self.job,
-            &mut self.pool,
-            &mut self.tables,
-            trim(line),
-            files,
-        )
+        answer_text(self.alloc, &self.job, &mut self.kernels, trim(line), files)
     }
 
     /// The line that x makes for the job by the loaded kernels, where its lines are those of a sample.
@@ -140,7 +131,7 @@ impl Session {
         ensures line { IfOk result (IsSampleLine self.old.job self.old.loaded x) }
         ensures kept { self.new ≡ self.old }
     {
-        job_line(self.alloc, &self.job, &self.pool, &mut self.tables, x)
+        job_line(self.alloc, &self.job, &mut self.kernels, x)
     }
 
     /// The answer of a line without its end that begins with `$`: `$load N`, `$unload N` or `$clear`.
@@ -172,22 +163,21 @@ impl Session {
 fn answer_text<F: Files>(
     alloc: Global,
     job: &Job,
-    pool: &mut Pool,
-    tables: &mut Tables,
+    kernels: &mut Kernels,
     text: &[u8],
     files: &mut F,
 ) -> Result<Answer, OutOfMemory>
     requires { IsReady job.now }
     ensures answered { IfOk result (λ answer.
-        TextGives (record { files = (F.state files.old).map; job = job.now }) pool.old text.now answer pool.new) }
-    ensures err { OnErr result (pool.new ≡ pool.old) }
+        TextGives (record { files = (F.state files.old).map; job = job.now }) kernels.old.loaded text.now answer kernels.new.loaded) }
+    ensures err { OnErr result (kernels.new.loaded ≡ kernels.old.loaded) }
     ensures cause { IfOk result (λ answer. IsAnswerCaused answer (F.state files.old).counts (F.state files.new).counts) }
     ensures files { KeepsFiles (F.state files.old) (F.state files.new) }
     ensures unread { IsNoLoad text.now → F.state files.new ≡ F.state files.old }
 {
     if is_command(text) {
-        answer_command(alloc, pool, text, files)
+        answer_command(alloc, kernels, text, files)
     } else {
-        time::answer_text(alloc, job, pool, tables, text)
+        time::answer_text(alloc, job, kernels, text)
     }
 }

@@ -13,6 +13,7 @@ use st_dates::System;
 use st_decimal::KText;
 use st_outside::Files;
 use st_pool::Pool;
+use st_tables::Kernels;
 use st_words::{IdFault, Job, setup_clock};
 use std::alloc::Global;
 
@@ -23,18 +24,18 @@ use std::alloc::Global;
 /// Why the first of them isn't loaded that can't be.
 pub fn load_files<F: Files>(
     alloc: Global,
-    pool: &mut Pool,
+    kernels: &mut Kernels,
     names: &[KText],
     files: &mut F,
 ) -> Result<(), KernelFault>
-    ensures ok { OnOk result (LoadsGive (F.state files.old).map pool.old names.now (Ok pool.new)) }
-    ensures err { IfErr result (λ fault. fault ≢ KernelFault.OutOfMemory → LoadsGive (F.state files.old).map pool.old names.now (Err fault)) }
+    ensures ok { OnOk result (LoadsGive (F.state files.old).map kernels.old.loaded names.now (Ok kernels.new.loaded)) }
+    ensures err { IfErr result (λ fault. fault ≢ KernelFault.OutOfMemory → LoadsGive (F.state files.old).map kernels.old.loaded names.now (Err fault)) }
     ensures cause { IfErr result (λ fault. IsCaused (line_fault fault) (F.state files.old).counts (F.state files.new).counts) }
     ensures closed { (F.state files.old).opened ≡ false → (F.state files.new).opened ≡ false }
     ensures files { KeepsFiles (F.state files.old) (F.state files.new) }
 {
     for name in names {
-        if let Err(fault) = load_file(alloc, pool, name.as_slice(), files) {
+        if let Err(fault) = load_file(alloc, kernels, name.as_slice(), files) {
             return Err(fault);
         }
     }

@@ -9,9 +9,8 @@ use crate::answer::Answer;
 use crate::fault::LineFault;
 use st_answers::{AnswerFault, answer_time};
 use st_decimal::OutOfMemory;
-use st_pool::Pool;
 use st_routes::TimeFault;
-use st_tables::{TableFault, Tables};
+use st_tables::{Kernels, TableFault};
 use st_words::Job;
 use std::alloc::{AllocError, Global};
 
@@ -19,14 +18,14 @@ use std::alloc::{AllocError, Global};
 pub fn answer_text(
     alloc: Global,
     job: &Job,
-    pool: &Pool,
-    tables: &mut Tables,
+    kernels: &mut Kernels,
     text: &[u8],
 ) -> Result<Answer, OutOfMemory>
     requires { IsReady job.now }
-    ensures { IfOk result (TimeGives job.now pool.now text.now) }
+    ensures answered { IfOk result (TimeGives job.now kernels.old.loaded text.now) }
+    ensures loaded { kernels.new.loaded ≡ kernels.old.loaded }
 {
-    match answer_time(alloc, job, pool, tables, text) {
+    match answer_time(alloc, job, kernels, text) {
         Ok(said) => Ok(Answer::Text(said)),
         Err(AnswerFault::OutOfMemory) => Err(AllocError),
         Err(fault) => Ok(Answer::Refused(line_fault(job.clock.unwrap_or(0), fault))),

@@ -1,5 +1,6 @@
 pub mod DateParts
 mod Examples
+pub mod FoundClock
 pub mod HasLines
 pub mod JobLaws
 pub mod LabelLaws

@@ -9,14 +9,14 @@ use crate::generator::tick_of;
 use crate::line::{label_line, seconds_line};
 use st_decimal::{Line, OutOfMemory};
 use st_forms::Form;
-use st_pool::Pool;
 use st_routes::{TickForm, spell_tick};
-use st_tables::{TableFault, Tables};
+use st_tables::{Kernels, TableFault};
 use st_words::{FromKind, Job};
 use std::alloc::{AllocError, Global};
 
 /// The line that x makes for a job whose clock is known: a label for dates, seconds for what is or may be seconds, and for a clock
-/// the string or the number of one of the ticks of the clock that the loaded kernels give, or `0` where they refuse it.
+/// the string or the number of one of the ticks of the clock that the loaded kernels give, or `0` where they refuse it. It finds
+/// that clock, and leaves the kernels as they are loaded.
 ///
 /// # Errors
 ///
@@ -24,18 +24,18 @@ use std::alloc::{AllocError, Global};
 pub fn job_line(
     alloc: Global,
     job: &Job,
-    pool: &Pool,
-    tables: &mut Tables,
+    kernels: &mut Kernels,
     x: u64,
 ) -> Result<Line, OutOfMemory>
     requires { IsReady job.now }
-    ensures line { IfOk result (IsSampleLine job.now pool.now x) }
+    ensures line { IfOk result (IsSampleLine job.now kernels.old.loaded x) }
+    ensures loaded { kernels.new.loaded ≡ kernels.old.loaded }
 {
     match job.form {
         FromKind::Time(Form::Calendar) => label_line(alloc, x),
         FromKind::Time(_) => seconds_line(alloc, x),
-        FromKind::Clock => clock_line(alloc, job, pool, tables, TickForm::Clock, x),
-        FromKind::Ticks => clock_line(alloc, job, pool, tables, TickForm::Ticks, x),
+        FromKind::Clock => clock_line(alloc, job, kernels, TickForm::Clock, x),
+        FromKind::Ticks => clock_line(alloc, job, kernels, TickForm::Ticks, x),
     }
 }
 
@@ -43,18 +43,21 @@ pub fn job_line(
 fn clock_line(
     alloc: Global,
     job: &Job,
-    pool: &Pool,
-    tables: &mut Tables,
+    kernels: &mut Kernels,
     form: TickForm,
     x: u64,
 ) -> Result<Line, OutOfMemory>
     requires ready { IsReady job.now }
     requires clock { is_clock job.now.from ≡ true }
-    ensures { IfOk result (IsClockLine job.now pool.now form x) }
+    ensures line { IfOk result (IsClockLine job.now kernels.old.loaded form x) }
+    ensures loaded { kernels.new.loaded ≡ kernels.old.loaded }
 {
     let Some(n) = job.clock else { unreachable!() };
-    match tables.clock(pool, n) {
-        Ok(clock) => spell_tick(alloc, clock, tick_of(x, clock.face().total()), form),
+    match kernels.find_clock(n) {
+        Ok(()) => {
+            let clock = kernels.clock();
+            spell_tick(alloc, clock, tick_of(x, clock.face().total()), form)
+        }
         Err(fault) => refused_line(alloc, fault),
     }
 }

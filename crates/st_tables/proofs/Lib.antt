@@ -1,10 +1,11 @@
 pub mod AnswerLaws
 pub mod ClockLaws
+pub mod FoundLaws
 pub mod GivenLaws
+pub mod KernelLaws
 pub mod KindLaws
 pub mod LeapLaws
 pub mod NumberLaws
 pub mod RuleLaws
 pub mod TableLaws
 pub mod ThreeLaws
-pub mod FoundLaws

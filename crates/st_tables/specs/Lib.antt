@@ -2,6 +2,7 @@ pub mod Answers
 pub mod ClockSteps
 pub mod Kept
 pub mod KeptSteps
+pub mod Kernels
 pub mod Laws
 pub mod Names
 pub mod Tables

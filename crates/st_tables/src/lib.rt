@@ -7,6 +7,7 @@
 mod clock;
 mod constants;
 mod fault;
+mod kernels;
 mod kinds;
 pub mod laws;
 mod leaps;
@@ -17,5 +18,6 @@ mod tables;
 mod tests;
 
 pub use fault::TableFault;
+pub use kernels::Kernels;
 pub use name::{Name, name_of, put_name};
 pub use tables::Tables;

@@ -2,7 +2,7 @@
 
 ghost use Rattle.std.specs.Prelude.{IsTrue};
 
-use crate::{TableFault, Tables, put_name};
+use crate::{Kernels, TableFault, Tables, put_name};
 use st_dates::Label;
 use st_kernel_text::read_kernel;
 use st_leaps::LeapFault;
@@ -176,6 +176,25 @@ fn follows_loads_and_unloads(rt: HostRuntime) -> Result<(), Fail> {
     assert_eq!(rt; noon(&mut tables, &pool), Some(12));
     pool.unload(b"more.tls")?;
     assert_eq!(rt; noon(&mut tables, &pool), Some(11));
+    Ok(())
+}
+
+#[test]
+fn finds_tables(rt: HostRuntime) -> Result<(), Fail> {
+    let alloc = rt.alloc();
+    let mut kernels = Kernels::new(alloc);
+    let absent = TableFault::NoVariable(Var::DeltaTa);
+    assert_eq!(rt; kernels.find_deltet(), Err(absent));
+    kernels.load(b"constants.tpc", read_kernel(alloc, CONSTANTS)?)?;
+    assert_eq!(rt; kernels.find_deltet(), Ok(()));
+    assert_eq!(rt; kernels.find_deltet(), Ok(()));
+    kernels.load(b"clock.tsc", read_kernel(alloc, CLOCK)?)?;
+    assert_eq!(rt; kernels.find_clock(82), Ok(()));
+    kernels.unload(b"constants.tpc")?;
+    assert_eq!(rt; kernels.find_deltet(), Err(absent));
+    assert_eq!(rt; kernels.find_clock(82), Ok(()));
+    kernels.clear();
+    assert!(rt; kernels.find_clock(82).is_err());
     Ok(())
 }
 

@@ -1,7 +1,9 @@
+use Rattle.std.proofs.Common.{option_map, ap}
+use Rattle.st_answers.specs.AskedSteps.{shown}
 use Rattle.st_answers.proofs.Sides.{route-is}
 use Rattle.st_answers.proofs.target.route_of.Goals as goal
 
 pub returns : goal.returns
-returns c = λ tables are same.
-    route-is c.args.job.now c.args.pool.now tables c.args.constants c.in-Some.constants _ _ _ are same c.in-Some.is (c.in_ok-clock.ensures tables are)
-    c.scale_of.ensures c.scale_of-2.ensures
+returns c =
+    route-is c.args.job.now (shown c.args.tables.now) c.in-Some.constants.now c.clock_scale.result _ _ c.requires.clock (ap (option_map (λ x. x.now)) c.in-Some.is)
+    c.clock_scale.ensures c.scale_of.ensures c.scale_of-2.ensures

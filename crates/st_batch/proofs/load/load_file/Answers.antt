@@ -9,5 +9,5 @@ pub returns-in_err-assignments-clause-err : goal.returns-in_err-assignments-clau
 returns-in_err-assignments-clause-err g c =
     let failed = err_from_is_err_and c.from_residual.result c.from_residual.ensures.1 in
     let is : c.from_residual.result ≡ Err c.in_err-assignments.field-0.0 = cc (failed.1, failed.2) in
-    let P : Result _ KernelFault → Type 0 = λ r. IfErr r (λ fault. fault ≢ OutOfMemory → LoadGives (g.F.Files.state c.args.files.now).map c.args.pool.now c.args.name.now (Err fault)) in
-    subst P (sym is) (λ not. c.in_err-assignments.ensures.err not c.args.pool.now)
+    let P : Result _ KernelFault → Type 0 = λ r. IfErr r (λ fault. fault ≢ OutOfMemory → LoadGives (g.F.Files.state c.args.files.now).map c.args.kernels.now.loaded c.args.name.now (Err fault)) in
+    subst P (sym is) (λ not. c.in_err-assignments.ensures.err not c.args.kernels.now.loaded)
