@@ -5,7 +5,6 @@ use Rattle.std.proofs.lemmas.Bool.Decides.{nat_tests}
 use Rattle.std.specs.Char.{is_ascii_digit}
 use Rattle.st_text.specs.Bytes.{are_blanks, are_digits, is_blank}
 use Rattle.st_text.specs.Lines.{trimmed}
-use Rattle.st_text.proofs.Logic.{and-left}
 use Rattle.st_ticks.specs.ClockText.{IsRun, Parts, Spells, SpellsFields, SpellsPartition}
 use Rattle.st_clock.specs.Clock.{Clock as TheClock}
 use Rattle.st_routes.specs.Source.{TickGives}
@@ -26,6 +25,7 @@ use Rattle.st_batch.specs.Returns.{CoveredLineReturns, TdbLineReturns, TellsTick
 use Rattle.st_batch.specs.Session.{MayAnswer}
 use Rattle.st_batch.specs.Setting.{Loaded, Setting}
 use Rattle.st_batch.specs.Times.{TimeGives, time_answer}
+use Rattle.st_batch.proofs.CommandLaws.{and-left}
 
 -- neither a digit nor a blank begins a command
 digit-begins : (b : ℕ) → is_ascii_digit b ≡ true → (b == 36) ≡ false

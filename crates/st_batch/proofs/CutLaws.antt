@@ -5,37 +5,14 @@ use Rattle.std.proofs.Math.Seq.{take-append_seam, drop-append-add}
 use Rattle.std.proofs.lemmas.List.{append_cancel_right, take_rest}
 use Rattle.std.proofs.lemmas.List.Folds.{list_any-append}
 use borrow.Author.Tests.{ltb-true, ltb-false, lt-ltb, le-ltb, eqb-true}
-use Rattle.st_text.specs.Lines.{lines_of, without_cr}
-use Rattle.st_text.proofs.Splits.{raw_lines-at, raw_lines-none, lines_of-first, lines_of-nil}
+use Rattle.st_text.specs.Lines.{HasNoFeed, lines_of, without_cr}
+use Rattle.st_text.proofs.LineLaws.{line-ends, no-line}
 use Rattle.st_batch.specs.Laws.{OneEnding}
-use Rattle.st_batch.specs.Outcome.{HasNoFeed}
 use Rattle.st_batch.specs.LinesSteps.{CutsAtFeed, Cuts, EndsLines}
 
 -- two texts without a line feed have none together
 pub joined_no_feed : (a b : List ℕ) → HasNoFeed a → HasNoFeed b → HasNoFeed (a ++ b)
 joined_no_feed a b p q = list_any-append (λ c. c == 10) a b ∙ ap (λ t. t || list_any (λ c. c == 10) b) p ∙ q
-
--- the place of the line feed behind a text that has none
-feed_behind : (line rest : List ℕ) → HasNoFeed line → position_or_len (λ b. b == 10) (line ++ (10 ∷ rest)) ≡ length line
-feed_behind [] rest h = refl
-feed_behind (b ∷ bs) rest h = by (b == 10) h (feed_behind bs rest)
-  where
-    by : (t : Bool) → (t || list_any (λ c. c == 10) bs) ≡ false
-        → (HasNoFeed bs → position_or_len (λ c. c == 10) (bs ++ (10 ∷ rest)) ≡ length bs)
-        → cond (not t) (1 + position_or_len (λ c. c == 10) (bs ++ (10 ∷ rest))) 0 ≡ length (b ∷ bs)
-    by true e more = absurd (cc)
-    by false e more = omega (arith, more e)
-
--- a text without a line feed has no place of one
-no_feed_behind : (line : List ℕ) → HasNoFeed line → position_or_len (λ b. b == 10) line ≡ length line
-no_feed_behind [] h = refl
-no_feed_behind (b ∷ bs) h = by (b == 10) h (no_feed_behind bs)
-  where
-    by : (t : Bool) → (t || list_any (λ c. c == 10) bs) ≡ false
-        → (HasNoFeed bs → position_or_len (λ c. c == 10) bs ≡ length bs)
-        → cond (not t) (1 + position_or_len (λ c. c == 10) bs) 0 ≡ length (b ∷ bs)
-    by true e more = absurd (cc)
-    by false e more = omega (arith, more e)
 
 -- a byte that is no line feed stands before a text that is cut
 cut_onto : (b : ℕ) (bs : List ℕ) (n i j : ℕ) → (b == 10) ≡ false → i ≡ suc n → j ≡ suc (n + 1)
@@ -67,14 +44,6 @@ none_from : (b : Bool) (n : ℕ) → cond b (Some n) None ≡ None → b ≡ fal
 none_from true n h = absurd (cc)
 none_from false n h = refl
 
-to_some : (b : Bool) (n i : ℕ) → b ≡ true → n ≡ i → cond b (Some n) None ≡ Some i
-to_some true n i p q = ap Some q
-to_some false n i p q = absurd (cc)
-
-to_none : (b : Bool) (n : ℕ) → b ≡ false → cond b (Some n) None ≡ None
-to_none true n p = absurd (cc)
-to_none false n p = refl
-
 -- the same, as the code cuts a text
 pub cut_at : (text : List ℕ) (i : ℕ) → position (λ b. b == 10) text ≡ Some i → CutsAtFeed text (take i text) (take (length text - (i + 1)) (drop (i + 1) text))
 cut_at text i h =
@@ -98,26 +67,6 @@ pub no_feed_from : (text : List ℕ) → position (λ b. b == 10) text ≡ None 
 no_feed_from text h =
     no_feed_within text (ltb-false _ _ (none_from (nat_lt (position_or_len (λ b. b == 10) text) (length text)) (position_or_len (λ b. b == 10) text) h))
 
--- the first line of a text is what stands before its first line feed
-pub lines-ended : (line rest : List ℕ) → HasNoFeed line → lines_of (line ++ (10 ∷ rest)) ≡ without_cr line ∷ lines_of rest
-lines-ended line rest h =
-    let text = line ++ (10 ∷ rest) in
-    let n = position_or_len (λ b. b == 10) text in
-    let place = feed_behind line rest h in
-    let within : n < length text = omega (arith, place, length-append line (10 ∷ rest)) in
-    let found = to_some (nat_lt n (length text)) n (length line) (lt-ltb _ _ within) place in
-    let front = take-append_seam line (10 ∷ rest) in
-    let behind = drop-append-add line (10 ∷ rest) 1 in
-    lines_of-first text line rest (rw front at (rw behind at (raw_lines-at text (length line) found)))
-
--- a text without a line feed is one line
-pub lines-begun : (line : List ℕ) → 0 < length line → HasNoFeed line → lines_of line ≡ without_cr line ∷ []
-lines-begun line some h =
-    let n = position_or_len (λ b. b == 10) line in
-    let place = no_feed_behind line h in
-    let none = to_none (nat_lt n (length line)) n (le-ltb _ _ (omega (arith, place))) in
-    lines_of-first line line [] (raw_lines-none line some none) ∙ ap (λ (l : List (List ℕ)). without_cr line ∷ l) (lines_of-nil [] refl)
-
 -- no text ends no line
 pub cuts-none : (begun : List ℕ) → Cuts begun [] [] begun
 cuts-none begun = λ later. refl
@@ -139,7 +88,7 @@ pub cuts-line : (begun end : List ℕ) → HasNoFeed begun → HasNoFeed end →
 cuts-line begun end p q = λ later.
     ap (λ (l : List ℕ). lines_of (begun ++ l)) (append_assoc end (10 ∷ []) later)
     ∙ ap lines_of (sym (append_assoc begun end (10 ∷ later)))
-    ∙ lines-ended (begun ++ end) later (joined_no_feed begun end p q)
+    ∙ line-ends (begun ++ end) later (joined_no_feed begun end p q)
 
 -- a text ends the lines that it is cut into
 pub ends-cut : (a b s : List ℕ) (xs : List (List ℕ)) → Cuts a s xs b → EndsLines a s xs
@@ -173,7 +122,7 @@ unsnoc xs ys x y e =
 
 -- a begun line that is ended is the only one
 line-alone : (begun : List ℕ) → HasNoFeed begun → lines_of (begun ++ (10 ∷ [])) ≡ without_cr begun ∷ []
-line-alone begun h = lines-ended begun [] h ∙ ap (λ (l : List (List ℕ)). without_cr begun ∷ l) (lines_of-nil [] refl)
+line-alone begun h = line-ends begun [] h ∙ ap (λ (l : List (List ℕ)). without_cr begun ∷ l) no-line
 
 -- what was read of an input ends one list of lines: a line feed behind it ends the one that has begun, and no more
 pub one-ending : OneEnding

@@ -5,7 +5,6 @@ pub mod Examples
 pub mod GoesOn
 pub mod GoodRun
 pub mod InputLaws
-pub mod KernelLaws
 pub mod LineLaws
 pub mod LinesLaws
 pub mod OneLine

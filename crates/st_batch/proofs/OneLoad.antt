@@ -15,7 +15,7 @@ use Rattle.st_batch.specs.declared.load.TheConstants.{MAX_FILE}
 use Rattle.st_batch.specs.Laws.{EveryLoadingGives, OneLoading}
 use Rattle.st_batch.specs.Load.{LoadGives, Takes}
 use Rattle.st_batch.specs.Setting.{Loaded}
-use Rattle.st_batch.proofs.KernelLaws as text
+use Rattle.st_kernel_text.proofs.FileAnswers as text
 
 abbrev Loading : Type 0
 Loading = Result Loaded KernelFault
@@ -42,7 +42,7 @@ by_text loaded name (Err text_fault.OutOfMemory) = Err NoFile
 -- by how long the file is
 abbrev by_length : (loaded : Loaded) (name bytes : List ℕ) → (MAX_FILE < length bytes) ⊎ (length bytes ≤ MAX_FILE) → Loading
 by_length loaded name bytes (inl long) = Err FileTooLong
-by_length loaded name bytes (inr few) = by_text loaded name (text.some_answer bytes).0
+by_length loaded name bytes (inr few) = by_text loaded name (text.each-file-has-answer bytes).0
 
 -- by whether it is there
 abbrev by_bytes : Loaded → List ℕ → Option (List ℕ) → Loading
@@ -75,7 +75,7 @@ length-sound : (files : Entries) (loaded : Loaded) (name bytes : List ℕ) (d : 
     → IsSound (Some files) loaded name (by_length loaded name bytes d)
 length-sound files loaded name bytes (inl long) has = ((bytes, has, long), λ e. cc)
 length-sound files loaded name bytes (inr few) has =
-    let a = text.some_answer bytes in
+    let a = text.each-file-has-answer bytes in
     text-sound files loaded name bytes a.0 has few a.1 a.2
 
 bytes-sound : (files : Entries) (loaded : Loaded) (name : List ℕ) (o : Option (List ℕ)) → bytes_of name files ≡ o → IsSound (Some files) loaded name (by_bytes loaded name o)
@@ -96,15 +96,15 @@ not-memory : (list : List Assignment) → ◌≢◌ {A = Result (List Assignment
 not-memory list = λ e. cc
 
 short-read : (loaded : Loaded) (name bytes : List ℕ) (d : (MAX_FILE < length bytes) ⊎ (length bytes ≤ MAX_FILE)) → length bytes ≤ MAX_FILE
-    → by_length loaded name bytes d ≡ by_text loaded name (text.some_answer bytes).0
+    → by_length loaded name bytes d ≡ by_text loaded name (text.each-file-has-answer bytes).0
 short-read loaded name bytes (inl long) few = absurd (omega arith)
 short-read loaded name bytes (inr d) few = refl
 
 reads-given : (files : Entries) (loaded : Loaded) (name bytes : List ℕ) (r : Result (List Assignment) TextFault) → bytes_of name files ≡ Some bytes → length bytes ≤ MAX_FILE
     → Reads bytes r → r ≢ Err text_fault.OutOfMemory → by_text loaded name r ≡ given_by files loaded name
 reads-given files loaded name bytes r has few reads not =
-    let a = text.some_answer bytes in
-    ap (by_text loaded name) (text.one_answer bytes r a.0 reads a.1 not a.2)
+    let a = text.each-file-has-answer bytes in
+    ap (by_text loaded name) (text.one-answer bytes r a.0 reads a.1 not a.2)
     ∙ sym (ap (by_bytes loaded name) has ∙ short-read loaded name bytes (cases_lt MAX_FILE (length bytes)) few)
 
 long-given : (loaded : Loaded) (name bytes : List ℕ) (d : (MAX_FILE < length bytes) ⊎ (length bytes ≤ MAX_FILE)) → MAX_FILE < length bytes

@@ -1,24 +1,12 @@
 -- By files that tell their bytes a setup gives one session, or one refusal, unless it names a fault of the files.
-use Rattle.std.proofs.Common.{◌≡◌, ◌≢◌, ℕ, zero, suc, ◌*◌, ◌^◌, ◌<◌, ◌≤◌, ℤ, pos, negsuc, neg_ℤ, unsigned_abs, inl, inr, Bool, true, false, Option, Some, Result, Ok, Err, List, [], ◌∷◌, refl, sym, ap, ◌∙◌, subst, arith, le_of_eq}
-use Rattle.std.proofs.Math.Nat.{le_of_mul-le-mul_right}
-use Rattle.std.proofs.lemmas.Bool.{false≢true}
-use Rattle.st_decimal.specs.ScalingMachine.{IsSizeTimesTen}
-use Rattle.st_decimal.specs.declared.number.Dec.{Dec}
-use Rattle.st_decimal.proofs.ScalingLaws.{power_some, size_of_times}
-use Rattle.st_kernel_text.specs.declared.value.Value.{Value}
-use Rattle.st_kernel_text.specs.declared.value.Value.TheVariants.{Number}
+use Rattle.std.proofs.Common.{◌≡◌, ◌≢◌, ℕ, inl, inr, Bool, true, false, Option, Some, Result, Ok, Err, List, [], ◌∷◌, refl, sym, ap, ◌∙◌, subst}
 use Rattle.st_outside.specs.Entries.{Entries}
-use Rattle.st_pool.specs.Variable.{loaded_values, loaded_kind}
-use Rattle.st_pool.specs.declared.kind.Kind.TheVariants.{Numbers}
-use Rattle.st_ticks.specs.declared.variable.Var.{Var}
-use Rattle.st_ticks.specs.declared.variable.Var.TheVariants.{DeltaAt, DeltaTa, K, Eb, M, Clock, LeapsecondsFile, SclkFile, SpacecraftId}
-use Rattle.st_words.specs.Setup.{SetupClock, SetupFiles, IsClockOf, IsId, id_name, leapseconds_name, names_files}
+use Rattle.st_words.specs.Setup.{SetupFiles}
 use Rattle.st_words.specs.declared.fault.IdFault.{IdFault}
-use Rattle.st_words.specs.declared.fault.IdFault.TheVariants as id
 use Rattle.st_words.specs.declared.fault.SetupFault.{SetupFault}
 use Rattle.st_words.specs.declared.fault.SetupFault.TheVariants as setup
 use Rattle.st_words.specs.declared.job.Job.{Job}
-use Rattle.st_words.proofs.SetupLaws as words
+use Rattle.st_words.proofs.OneSetup as words
 use Rattle.st_batch.specs.declared.fault.LineFault.{LineFault}
 use Rattle.st_batch.specs.declared.fault.LineFault.TheVariants as line
 use Rattle.st_batch.specs.declared.kernel_fault.KernelFault.{KernelFault}
@@ -27,47 +15,6 @@ use Rattle.st_batch.specs.Load.{LoadGives, line_fault}
 use Rattle.st_batch.specs.Setting.{Loaded, Setting, State}
 use Rattle.st_batch.specs.Setup.{ClockGives, LoadsGive, SetupGives, asks_clock, files_fault, id_fault, with_clock}
 use Rattle.st_batch.proofs.OneLoad.{one-load}
-
--- a number has one magnitude
-one-factor : (m n p : ℕ) → 0 < p → m * p ≡ n * p → m ≡ n
-one-factor m n p some same =
-    let low : m ≤ n = le_of_mul-le-mul_right (le_of_eq same) some in
-    let high : n ≤ m = le_of_mul-le-mul_right (le_of_eq (sym same)) some in
-    omega arith
-
-one-size : (size : ℕ) (power : ℤ) (a b : ℕ) → IsSizeTimesTen size power a → IsSizeTimesTen size power b → a ≡ b
-one-size size (pos k) a b h i = h ∙ sym i
-one-size size (negsuc k) a b h i = one-factor a b (10 ^ suc k) (power_some (suc k)) (h ∙ sym i)
-
-size-of-neg : (n : ℕ) → unsigned_abs (neg_ℤ (pos n)) ≡ n
-size-of-neg zero = refl
-size-of-neg (suc k) = refl
-
-one-magnitude : (d : Dec) (m n : ℕ) → IsId d m → IsId d n → m ≡ n
-one-magnitude d m n h k =
-    sym (size-of-neg m)
-    ∙ one-size (unsigned_abs d.digits) d.tens (unsigned_abs (neg_ℤ (pos m))) (unsigned_abs (neg_ℤ (pos n))) (size_of_times d.digits d.tens (neg_ℤ (pos m)) h.whole.value)
-    (size_of_times d.digits d.tens (neg_ℤ (pos n)) k.whole.value)
-    ∙ size-of-neg n
-
-same-number : (a b : Dec) → ◌≡◌ {A = List Value} (Number a ∷ []) (Number b ∷ []) → a ≡ b
-same-number a b e = cc
-
-one-id : (values : List Value) (m n : ℕ) → IsClockOf values m → IsClockOf values n → m ≡ n
-one-id values m n h k =
-    let same = same-number h.number k.number (sym h.alone ∙ k.alone) in
-    one-magnitude k.number m n (subst (λ (d : Dec). IsId d m) same h.id) k.id
-
--- a loaded setup names one clock
-finds : (loaded : Loaded) (a : Result ℕ IdFault) → SetupClock loaded a → (n : ℕ) → loaded_kind id_name loaded ≡ Numbers → IsClockOf (loaded_values id_name loaded) n → a ≡ Ok n
-finds loaded (Ok m) h = λ n e k. ap (λ (x : ℕ). Ok x) (one-id (loaded_values id_name loaded) m n h.1 k)
-finds loaded (Err id.Missing) h = λ n e k. let bad = sym h ∙ e in absurd cc
-finds loaded (Err id.WrongKind) (inl h) = λ n e k. let bad = sym h ∙ e in absurd cc
-finds loaded (Err id.WrongKind) (inr h) = λ n e k. let bad = sym h ∙ e in absurd cc
-finds loaded (Err id.BadId) h = λ n e k. absurd (h.1 n k)
-
-one-clock : (loaded : Loaded) (a b : Result ℕ IdFault) → SetupClock loaded a → SetupClock loaded b → a ≡ b
-one-clock loaded a b h k = words.one_clock loaded a b (finds loaded a h) h k
 
 same-id : (m n : ℕ) → ◌≡◌ {A = Result ℕ IdFault} (Ok m) (Ok n) → m ≡ n
 same-id m n e = cc
@@ -81,39 +28,10 @@ id-or-fault n f e = absurd cc
 one-clocked : (asks : Bool) (job : Job) (loaded : Loaded) (a b : Result Job IdFault) → ClockGives asks job loaded a → ClockGives asks job loaded b → a ≡ b
 one-clocked false job loaded a b h k = h ∙ sym k
 one-clocked true job loaded (Ok a) (Ok b) (m, h, e) (n, k, d) =
-    ap (λ (j : Job). Ok j) (e ∙ ap (λ (x : ℕ). with_clock job x) (same-id m n (one-clock loaded (Ok m) (Ok n) h k)) ∙ sym d)
-one-clocked true job loaded (Ok a) (Err f) (m, h, e) k = absurd (id-or-fault m f (one-clock loaded (Ok m) (Err f) h k))
-one-clocked true job loaded (Err f) (Ok b) h (n, k, d) = absurd (id-or-fault n f (one-clock loaded (Ok n) (Err f) k h))
-one-clocked true job loaded (Err f) (Err g) h k = ap (λ (x : IdFault). Err x) (same-id-fault f g (one-clock loaded (Err f) (Err g) h k))
-
--- and one list of files, or the first variable of a wrong kind
-wrong_first : Bool → Var
-wrong_first true = SclkFile
-wrong_first false = LeapsecondsFile
-
-abbrev IsWrong : Loaded → Var → Type 0
-IsWrong loaded var = (var ≡ wrong_first (names_files leapseconds_name loaded)) × ((names : List (List ℕ)) → SetupFiles loaded (Ok names) → ⊥)
-
-wrong : (loaded : Loaded) (var : Var) → SetupFiles loaded (Err (setup.WrongKind var)) → IsWrong loaded var
-unfolding wrong_first
-wrong loaded LeapsecondsFile h = (sym (ap wrong_first h), λ names k. false≢true (sym h ∙ k.0))
-wrong loaded SclkFile h = (sym (ap wrong_first h.0), λ names k. false≢true (sym h.1 ∙ k.1))
-wrong loaded DeltaAt h = absurd h
-wrong loaded DeltaTa h = absurd h
-wrong loaded K h = absurd h
-wrong loaded Eb h = absurd h
-wrong loaded M h = absurd h
-wrong loaded (Clock var n) h = absurd h
-wrong loaded SpacecraftId h = absurd h
-
-one-files : (loaded : Loaded) (a b : Result (List (List ℕ)) SetupFault) → SetupFiles loaded a → SetupFiles loaded b → a ≡ b
-one-files loaded (Ok a) (Ok b) h k = ap (λ (x : List (List ℕ)). Ok x) (h.2 ∙ sym k.2)
-one-files loaded (Ok a) (Err (setup.WrongKind v)) h k = absurd ((wrong loaded v k).1 a h)
-one-files loaded (Ok a) (Err setup.OutOfMemory) h k = absurd k
-one-files loaded (Err (setup.WrongKind v)) (Ok b) h k = absurd ((wrong loaded v h).1 b k)
-one-files loaded (Err (setup.WrongKind v)) (Err (setup.WrongKind w)) h k = ap (λ (x : Var). Err (setup.WrongKind x)) ((wrong loaded v h).0 ∙ sym (wrong loaded w k).0)
-one-files loaded (Err (setup.WrongKind v)) (Err setup.OutOfMemory) h k = absurd k
-one-files loaded (Err setup.OutOfMemory) b h k = absurd h
+    ap (λ (j : Job). Ok j) (e ∙ ap (λ (x : ℕ). with_clock job x) (same-id m n (words.one-clock loaded (Ok m) (Ok n) h k)) ∙ sym d)
+one-clocked true job loaded (Ok a) (Err f) (m, h, e) k = absurd (id-or-fault m f (words.one-clock loaded (Ok m) (Err f) h k))
+one-clocked true job loaded (Err f) (Ok b) h (n, k, d) = absurd (id-or-fault n f (words.one-clock loaded (Ok n) (Err f) k h))
+one-clocked true job loaded (Err f) (Err g) h k = ap (λ (x : IdFault). Err x) (same-id-fault f g (words.one-clock loaded (Err f) (Err g) h k))
 
 -- files are loaded to one list, or refused for one reason
 abbrev Loading : Type 0
@@ -202,7 +120,7 @@ after-files files job first (Err fault) a b m n h k = h ∙ sym k
 one-named : (files : Entries) (job : Job) (first : Loaded) (a b : Answer) → IsNoFault a → IsNoFault b → FindsFiles files job first a → FindsFiles files job first b → a ≡ b
 one-named files job first a b m n (r, h, t) (q, k, u) =
     let P : Result (List (List ℕ)) SetupFault → Type 0 = λ x. AfterFiles files job first x a in
-    after-files files job first q a b m n (subst P (one-files first r q h k) t) u
+    after-files files job first q a b m n (subst P (words.one-files first r q h k) t) u
 
 after-first : (files : Entries) (job : Job) (r : Loading) (a b : Answer) → IsNoFault a → IsNoFault b → AfterFirst files job r a → AfterFirst files job r b → a ≡ b
 after-first files job (Ok first) a b m n h k = one-named files job first a b m n h k

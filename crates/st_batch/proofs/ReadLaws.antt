@@ -1,30 +1,33 @@
 -- How the answering of the lines of a text comes along.
 use Rattle.std.proofs.Common.{◌≡◌, ℕ, ◌<◌, Option, List, [], ◌∷◌, ◌++◌, length, refl, sym, ◌∙◌, ap, subst, append_assoc, Result, Ok, Err, OnErr}
-use Rattle.st_text.specs.Lines.{lines_of, without_cr}
-use Rattle.st_text.proofs.Splits.{lines_of-nil}
+use Rattle.st_text.specs.Lines.{HasNoFeed, lines_of, without_cr}
+use Rattle.st_text.proofs.LineLaws as text
 use Rattle.st_batch.specs.declared.answering.Answering.{Answering}
 use Rattle.st_batch.specs.declared.status.Status.{Status}
 use Rattle.st_outside.specs.Causes.{AreLater}
 use Rattle.st_outside.specs.States.{FilesState}
 use Rattle.st_outside.proofs.StateLaws.{AreLater-same}
-use Rattle.st_batch.specs.Outcome.{HasNoFeed}
 use Rattle.st_batch.specs.LinesSteps.{Moment, AnswersLine, Writes, Finishes, FinishesWriting, CutsAtFeed, ReadsText, StopsInText, ReadsPart}
 use Rattle.st_batch.specs.OutputSteps.{TakesPrefix}
-use Rattle.st_batch.proofs.CutLaws.{joined_no_feed, lines-begun, cuts-none, cuts-join, cuts-begun, cuts-line, ends-cut, ends-none, ends-longer, ends-join}
+use Rattle.st_batch.proofs.CutLaws.{joined_no_feed, cuts-none, cuts-join, cuts-begun, cuts-line, ends-cut, ends-none, ends-longer, ends-join}
 use Rattle.st_batch.proofs.LinesLaws.{advances-none, advances-join, advances-one, advances-writes, stops-cut, stops-here, stops-after, finishes-written}
+
+nothing : (bytes : List ℕ) → length bytes ≡ 0 → lines_of bytes ≡ []
+nothing [] e = text.no-line
+nothing (b ∷ bs) e = absurd (omega arith)
 
 -- no line is begun: what is gathered is written
 pub last-none : (a : Moment) (taken : Option (List ℕ)) (begun : List ℕ) (status : Status)
     → length begun ≡ 0 → FinishesWriting a.taken taken a.answering status → Finishes a a.files taken (lines_of begun) status
 last-none a taken begun status none end =
-    subst (λ (l : List (List ℕ)). Finishes a a.files taken l status) (sym (lines_of-nil begun none))
+    subst (λ (l : List (List ℕ)). Finishes a a.files taken l status) (sym (nothing begun none))
     (finishes-written a a a.files taken [] status (advances-none a) (AreLater-same a.files.counts) end)
 
 -- the begun line is the last one
 pub last-line : (a : Moment) (counts : FilesState) (taken : Option (List ℕ)) (begun line : List ℕ) (status : Status)
     → HasNoFeed begun → 0 < length begun → line ≡ without_cr begun → Finishes a counts taken (line ∷ []) status → Finishes a counts taken (lines_of begun) status
 last-line a counts taken begun line status none some e p =
-    subst (λ (l : List (List ℕ)). Finishes a counts taken l status) (ap (λ (l : List ℕ). l ∷ []) e ∙ sym (lines-begun begun some none)) p
+    subst (λ (l : List (List ℕ)). Finishes a counts taken l status) (ap (λ (l : List ℕ). l ∷ []) e ∙ sym (text.last-line begun some none)) p
 
 -- the line that a line feed ends was answered, and some of what was gathered written
 pub reads-line : (before now : FilesState) (taken then : Option (List ℕ)) (a b c : Answering) (begun end next : List ℕ)

@@ -13,8 +13,8 @@ use Rattle.st_samples.specs.Generator.{next_of, x_of}
 use Rattle.st_samples.specs.JobLine.{AreSampleLines, IsSampleLine}
 use Rattle.st_samples.specs.Laws.{begins_with_digit}
 use Rattle.st_samples.specs.Summary.{AnswerLine, Summary, is_refusal, summary_of, summary_text, with_answer}
-use Rattle.st_samples.proofs.JobLaws.{lines-begin-with-digits, more-lines}
-use Rattle.st_samples.proofs.SummaryLaws.{grown}
+use Rattle.st_samples.proofs.JobLaws.{lines-begin-with-digits, lines-go-on}
+use Rattle.st_samples.proofs.SummaryLaws.{summary_grows}
 use Rattle.st_text.specs.Lines.{trimmed}
 use Rattle.st_words.specs.declared.job.Job.{Job}
 use Rattle.st_words.specs.declared.job.Work.{Work}
@@ -73,16 +73,17 @@ pub sums-more : (s : Setting) (counts : FileCounts) (loaded : Loaded) (seed n m 
     → SumsUp s counts loaded seed n before → SumsLine s counts loaded x before after → SumsUp s counts loaded seed m after
 sums-more s counts loaded seed n m x before after e f h k =
     let p = h.sampled in
-    let line : IsSampleLine s.job loaded (x_of seed m) k.line = subst (λ (y : ℕ). IsSampleLine s.job loaded y k.line) f k.is_line in
+    let line : IsSampleLine s.job loaded (x_of seed (n + 1)) k.line = subst (λ (y : ℕ). IsSampleLine s.job loaded y k.line) (f ∙ ap (λ (j : ℕ). x_of seed j) e) k.is_line in
+    let grown = summary_grows (map as_counted h.answers) (as_counted k.answer) in
     record {
       answers = h.answers ++ k.answer ∷ [];
       sampled = record {
         lines = p.lines ++ k.line ∷ [];
-        are_lines = (omega (arith, e, p.are_lines.0, length-append p.lines (k.line ∷ [])), more-lines s.job loaded seed 1 m p.lines k.line (omega (arith, e, p.are_lines.0)) p.are_lines.1 line);
+        are_lines = subst (λ (j : ℕ). AreSampleLines s.job loaded j seed (p.lines ++ k.line ∷ [])) (sym e) (lines-go-on s.job loaded n seed p.lines k.line p.are_lines line);
         answered = runs-join s loaded loaded loaded p.lines (k.line ∷ []) h.answers (k.answer ∷ []) p.answered (loaded, k.answered, refl);
         counted = counted-join counts counts counts h.answers (k.answer ∷ []) p.counted k.counted;
       };
-      summed = grown (map as_counted h.answers) (as_counted k.answer) before after h.summed k.summed ∙ ap summary_of (sym (map-more h.answers k.answer));
+      summed = k.summed ∙ ap (λ (sum : Summary). with_answer sum (as_counted k.answer)) h.summed ∙ sym grown ∙ ap summary_of (sym (map-more h.answers k.answer));
     }
 
 -- what was answered over files and by a session that are as before was so by those before

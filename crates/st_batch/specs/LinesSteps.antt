@@ -2,7 +2,7 @@
 use Rattle.std.specs.Prelude.{◌≡◌, ℕ, true, false, ◌||◌, if◌then◌else◌, Option, Some, None, List, [], ◌∷◌, ◌++◌, length, ◌⊎◌}
 use Rattle.std.specs.Io.KnownBytes.{Appends, Consumes}
 use Rattle.std.specs.List.{flat_map, list_any}
-use Rattle.st_text.specs.Lines.{lines_of}
+use Rattle.st_text.specs.Lines.{HasNoFeed, lines_of}
 use Rattle.st_outside.specs.States.{FilesState}
 use Rattle.st_outside.specs.declared.faults.SinkFault.{SinkFault}
 use Rattle.st_outside.specs.declared.faults.SinkFault.TheVariants as fault
@@ -12,7 +12,7 @@ use Rattle.st_batch.specs.declared.answering.Answering.{Answering}
 use Rattle.st_batch.specs.declared.status.Status.{Status}
 use Rattle.st_batch.specs.declared.status.Status.TheVariants.{Done, SomeRefused, WriteFault, OutOfMemory}
 use Rattle.st_batch.specs.Causes.{AreCounted}
-use Rattle.st_batch.specs.Outcome.{HasNoFeed, LinesOutcome, NothingDone, Outside, is_refused}
+use Rattle.st_batch.specs.Outcome.{LinesOutcome, NothingDone, Outside, is_refused}
 use Rattle.st_batch.specs.OutputSteps.{TakesPrefix}
 use Rattle.st_batch.specs.Session.{MayAnswer, RunsTo}
 use Rattle.st_batch.specs.Setting.{Loaded, Setting, setting}

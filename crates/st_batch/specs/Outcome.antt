@@ -86,10 +86,6 @@ pub record SomeAnswered (o : Outside) (job : Job) (loaded : Loaded) (bytes : Lis
   pub may : MayWriteBefore job.work more
   pub written : output_of job.work answers ≡ bytes ++ rest
 
--- the bytes have no line feed
-abbrev pub HasNoFeed : List ℕ → Type 0
-HasNoFeed bytes = list_any (λ b. b == 10) bytes ≡ false
-
 -- These lines have ended in what was read of the input: whatever is read later, the input's lines begin with these, and
 -- the next one begins with `begun`.
 pub record HaveEnded (input left : Option (List ℕ)) (lines : List (List ℕ)) : Type 0 where

@@ -5,9 +5,10 @@ ghost use Rattle.st_words.specs.Job.{IsWorkInRange};
 ghost use Rattle.st_outside.specs.Causes.{Rose, RoseBeyond};
 ghost use Rattle.st_outside.specs.States.{FilesState, KeepsFiles};
 ghost use Rattle.st_text.specs.Lines as lines;
+ghost use Rattle.st_text.specs.Lines.{HasNoFeed};
 ghost use Rattle.st_batch.specs.Limits.{most_input_bytes};
 ghost use Rattle.st_batch.specs.LinesSteps.{AnswersLine, CutsAtFeed, Finishes, FinishesWriting, LinesEnd, ReadsText, StopsInText, moment};
-ghost use Rattle.st_batch.specs.Outcome.{HasNoFeed, IsAnswered, LinesOutcome, Took, around};
+ghost use Rattle.st_batch.specs.Outcome.{IsAnswered, LinesOutcome, Took, around};
 
 use crate::answering::Answering;
 use crate::sample::answer_sample;

@@ -1,5 +1,6 @@
 pub mod DataLines
 mod Examples
+pub mod FileAnswers
 pub mod FileLaws
 pub mod Forced
 pub mod Grows

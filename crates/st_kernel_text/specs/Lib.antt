@@ -4,6 +4,7 @@ pub mod FaultSteps
 pub mod Faults
 pub mod File
 pub mod Grammar
+pub mod Laws
 pub mod Limits
 pub mod LinesMachine
 pub mod ParserMachine

@@ -11,6 +11,7 @@ mod assignment;
 mod bytes;
 mod fault;
 mod kernel;
+pub mod laws;
 mod lines;
 mod names;
 mod number;

@@ -1,6 +1,7 @@
 pub mod Calls
 pub mod Causes
 pub mod Entries
+pub mod Laws
 pub mod MemFiles
 pub mod MemSink
 pub mod MemSource

@@ -10,6 +10,7 @@ mod calls;
 mod faults;
 mod file_map;
 mod file_system;
+pub mod laws;
 mod mem_files;
 mod mem_sink;
 mod mem_source;

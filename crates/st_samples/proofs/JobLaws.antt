@@ -35,7 +35,7 @@ use Rattle.st_answers.proofs.Sides.{is_of_clock, source-kind}
 use Rattle.st_answers.proofs.Timed.{one-tick-text}
 use Rattle.st_samples.specs.Generator.{seconds, tick, x_of}
 use Rattle.st_samples.specs.JobLine.{AreLinesFrom, IsClockLine, IsLineBy, IsTickLine}
-use Rattle.st_samples.specs.Laws.{LinesBeginWithDigits, OneSample, begins_with_digit}
+use Rattle.st_samples.specs.Laws.{LinesBeginWithDigits, LinesGoOn, OneSample, begins_with_digit}
 use Rattle.st_samples.specs.SampleLine.{IsLabelLine, IsLabelText}
 use Rattle.st_samples.proofs.LabelLaws.{one_text}
 
@@ -126,10 +126,14 @@ pub one-sample : OneSample
 one-sample job loaded n seed lines other h k = one-list job loaded seed 1 lines other (h.0 ∙ sym k.0) h.1 k.1
 
 -- a line is made behind others
-pub more-lines : (job : Job) (loaded : Loaded) (seed i n : ℕ) (lines : List (List ℕ)) (line : List ℕ) → n ≡ i + length lines → AreLinesFrom job loaded seed i lines
+more-lines : (job : Job) (loaded : Loaded) (seed i n : ℕ) (lines : List (List ℕ)) (line : List ℕ) → n ≡ i + length lines → AreLinesFrom job loaded seed i lines
     → IsLineBy job.form job loaded (x_of seed n) line → AreLinesFrom job loaded seed i (lines ++ line ∷ [])
 more-lines job loaded seed i n [] line e h k = (subst (λ (m : ℕ). IsLineBy job.form job loaded (x_of seed m) line) (omega (arith, e)) k, tt)
 more-lines job loaded seed i n (first ∷ lines) line e h k = (h.0, more-lines job loaded seed (i + 1) n lines line (omega (arith, e)) h.1 k)
+
+pub lines-go-on : LinesGoOn
+lines-go-on job loaded n seed lines line h k =
+    (omega (arith, h.0, length-append lines (line ∷ [])), more-lines job loaded seed 1 (n + 1) lines line (omega (arith, h.0)) h.1 k)
 
 -- what is made of a tick of the clock, or where it is refused, is the line
 pub tick-line : {E : Type 0} (r : Result (List ℕ) E) (job : Job) (loaded : Loaded) (form : TickForm) (x n k : ℕ) (clock : TheClock) → job.clock ≡ Some n → ClockGives n loaded (Ok clock)

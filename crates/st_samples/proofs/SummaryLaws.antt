@@ -35,10 +35,6 @@ summary_grows answers (refusal bytes) =
     same _ _ (one_more answers (refusal bytes)) (omega (arith, texts)) refusals (all_bytes answers (refusal bytes))
 
 -- the same for a summary that is followed
-pub grown : (answers : List AnswerLine) (answer : AnswerLine) (before after : Summary) → before ≡ summary_of answers → after ≡ with_answer before answer
-    → after ≡ summary_of (answers ++ answer ∷ [])
-grown answers answer before after h e = e ∙ ap (λ (s : Summary). with_answer s answer) h ∙ sym (summary_grows answers answer)
-
 -- the loop's step
 pub sum_more : (start total i : ℕ) (bytes : List ℕ) → i < length bytes → total ≡ (start + sum (take i bytes)) % 2 ^ 32
     → (total + get_or bytes i 0) % 2 ^ 32 ≡ (start + sum (take (i + 1) bytes)) % 2 ^ 32

@@ -1,5 +1,5 @@
 -- What the definitions of the samples say by themselves, as laws.
-use Rattle.std.specs.Prelude.{◌≡◌, ◌≢◌, ℕ, Bool, true, false, List, [], ◌∷◌, ◌++◌, Some, Result, Ok, Err}
+use Rattle.std.specs.Prelude.{◌≡◌, ◌≢◌, ℕ, ◌+◌, Bool, true, false, List, [], ◌∷◌, ◌++◌, Some, Result, Ok, Err}
 use Rattle.std.specs.Char.{is_ascii_digit}
 use Rattle.st_text.specs.Lines.{trimmed}
 use Rattle.st_answers.specs.Ready.{IsReady}
@@ -18,6 +18,7 @@ use Rattle.st_tables.specs.Variables.{Loaded}
 use Rattle.st_tables.specs.declared.fault.TableFault.{TableFault}
 use Rattle.st_tables.specs.declared.fault.TableFault.TheVariants.{OutOfMemory}
 use Rattle.st_words.specs.declared.job.Job.{Job}
+use Rattle.st_samples.specs.Generator.{x_of}
 use Rattle.st_samples.specs.JobLine.{AreSampleLines, IsSampleLine}
 use Rattle.st_samples.specs.SampleLine.{count_of, seconds_text, IsLabelLine}
 use Rattle.st_samples.specs.Summary.{AnswerLine, summary_of, with_answer}
@@ -58,6 +59,13 @@ abbrev pub OneSample : Type 0
 OneSample =
     (job : Job) (loaded : Loaded) (n seed : ℕ) (lines other : List (List ℕ))
     → AreSampleLines job loaded n seed lines → AreSampleLines job loaded n seed other → lines ≡ other
+
+-- A sample of one line more has it behind the others.
+abbrev pub LinesGoOn : Type 0
+LinesGoOn =
+    (job : Job) (loaded : Loaded) (n seed : ℕ) (lines : List (List ℕ)) (line : List ℕ)
+    → AreSampleLines job loaded n seed lines → IsSampleLine job loaded (x_of seed (n + 1)) line
+    → AreSampleLines job loaded (n + 1) seed (lines ++ line ∷ [])
 
 abbrev pub begins_with_digit : List ℕ → Bool
 begins_with_digit [] = false

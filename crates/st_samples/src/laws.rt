@@ -1,6 +1,6 @@
 //! Laws of the samples. Each function does nothing; its contract is the law.
 
-ghost use Rattle.st_samples.specs.Laws.{EachSampleHasLines, LabelsAreRead, LinesBeginWithDigits, OneSample, SecondsAreRead, SummaryGrows};
+ghost use Rattle.st_samples.specs.Laws.{EachSampleHasLines, LabelsAreRead, LinesBeginWithDigits, LinesGoOn, OneSample, SecondsAreRead, SummaryGrows};
 
 /// The seconds of each x are taken by the reader of times, for TAI, TT and TDB, as the instant that they count.
 pub fn seconds_are_read()
@@ -26,6 +26,11 @@ pub fn each_sample_has_lines()
 /// It has one list of them.
 pub fn one_sample()
     ensures { OneSample }
+{}
+
+/// A sample of one line more has it behind the others.
+pub fn lines_go_on()
+    ensures { LinesGoOn }
 {}
 
 /// Each line of a sample begins with a digit, so that none is a command.

@@ -1,4 +1,5 @@
 mod Examples
+pub mod LineLaws
 pub mod Logic
 pub mod Numbers
 pub mod Padded

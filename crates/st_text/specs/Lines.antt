@@ -1,10 +1,14 @@
 -- The lines of a text file. A line ends at a line feed (LF) or at the end of the file, and one
 -- carriage return (CR) at its end is dropped: text files of Unix and of Windows have the same
 -- lines.
-use Rattle.std.specs.Prelude.{ℕ, ◌-◌, List, [], ◌∷◌, map, length, take, slice_index, ◌==◌, ◌&&◌, nat_lt, if◌then◌else◌}
-use Rattle.std.specs.List.{slice_split}
+use Rattle.std.specs.Prelude.{◌≡◌, ℕ, false, ◌-◌, List, [], ◌∷◌, map, length, take, slice_index, ◌==◌, ◌&&◌, nat_lt, if◌then◌else◌}
+use Rattle.std.specs.List.{list_any, slice_split}
 use Rattle.st_text.specs.Ascii.{line_feed, carriage_return}
 use Rattle.st_text.specs.Bytes.{is_blank, are_blanks}
+
+-- the bytes have no LF
+abbrev pub HasNoFeed : List ℕ → Type 0
+HasNoFeed bytes = list_any (λ b. b == line_feed) bytes ≡ false
 
 -- the parts but for the last, where that has no bytes
 abbrev pub without_last_empty : List (List ℕ) → List (List ℕ)

@@ -3,6 +3,7 @@
 
 mod blanks;
 mod digits;
+pub mod laws;
 mod lines;
 mod scan;
 mod spelling;

@@ -8,4 +8,5 @@ pub mod OneAnswer
 pub mod GoodJob
 pub mod EachHasAnswer
 pub mod SetupLaws
+pub mod OneSetup
 pub mod Spells

@@ -1,6 +1,6 @@
 //! Laws of the definition by which words are told. Each function does nothing; its contract is the law.
 
-ghost use Rattle.st_words.specs.Laws.{EachHasAnswer, EachJobIsSpelled, OneAnswer};
+ghost use Rattle.st_words.specs.Laws.{EachHasAnswer, EachJobIsGood, EachJobIsSpelled, OneAnswer, OneSetupClock, OneSetupFiles};
 
 /// No words have two answers.
 pub fn one_answer()
@@ -16,4 +16,15 @@ pub fn each_has_answer()
 /// an option.
 pub fn each_job_is_spelled()
     ensures { EachJobIsSpelled }
+{}
+
+/// Each job that words ask for is one that a session can be opened for.
+pub fn each_job_is_good()
+    ensures { EachJobIsGood }
+{}
+
+/// A loaded setup names one clock and one list of files, or is refused for one reason.
+pub fn one_setup()
+    ensures clock { OneSetupClock }
+    ensures files { OneSetupFiles }
 {}

@@ -1,4 +1,4 @@
--- What the definitions of kernels say: every file has an answer, and one.
+-- Every file has an answer, and one.
 use Rattle.std.proofs.Common.{◌≡◌, ◌≢◌, ℕ, Result, Ok, Err, List, refl}
 use Rattle.st_kernel_text.specs.Fault.{Fault}
 use Rattle.st_kernel_text.specs.File.{Reads, Agree}
@@ -12,8 +12,8 @@ answers : (m : Result (List Assignment) Fault) → file.answer_of m ≢ Err OutO
 answers (Ok list) = λ (h : Ok list ≡ Err OutOfMemory). cc
 answers (Err f) = λ (h : Err (At f.line f.cause) ≡ Err OutOfMemory). cc
 
-pub some_answer : (bytes : List ℕ) → (r : Result (List Assignment) TextFault) × Reads bytes r × (r ≢ Err OutOfMemory)
-some_answer bytes = (file.answer_of (read_of bytes), file.some_answer bytes, answers (read_of bytes))
+pub each-file-has-answer : (bytes : List ℕ) → (r : Result (List Assignment) TextFault) × Reads bytes r × (r ≢ Err OutOfMemory)
+each-file-has-answer bytes = (file.answer_of (read_of bytes), file.some_answer bytes, answers (read_of bytes))
 
 agreed : (r a : Result (List Assignment) TextFault) → Agree r a → r ≢ Err OutOfMemory → a ≢ Err OutOfMemory → r ≡ a
 agreed (Ok x) (Ok y) h nr na = h
@@ -23,5 +23,5 @@ agreed (Err (At n c)) (Err (At m d)) h nr na = h
 agreed (Err OutOfMemory) a h nr na = absurd (nr refl)
 agreed r (Err OutOfMemory) h nr na = absurd (na refl)
 
-pub one_answer : (bytes : List ℕ) (r s : Result (List Assignment) TextFault) → Reads bytes r → Reads bytes s → r ≢ Err OutOfMemory → s ≢ Err OutOfMemory → r ≡ s
-one_answer bytes r s h k nr ns = agreed r s (file.one_answer bytes r s h k) nr ns
+pub one-answer : (bytes : List ℕ) (r s : Result (List Assignment) TextFault) → Reads bytes r → Reads bytes s → r ≢ Err OutOfMemory → s ≢ Err OutOfMemory → r ≡ s
+one-answer bytes r s h k nr ns = agreed r s (file.one_answer bytes r s h k) nr ns
