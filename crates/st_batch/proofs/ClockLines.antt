@@ -18,7 +18,7 @@ use Rattle.st_answers.specs.declared.fault.AnswerFault.TheVariants as answers
 use Rattle.st_answers.proofs.Returned.{covered-tick-returns, tdb-tick-returns}
 use Rattle.st_batch.specs.declared.answer.Answer.{Answer}
 use Rattle.st_batch.specs.declared.answer.Answer.TheVariants.{Refused}
-use Rattle.st_batch.specs.declared.fault.LineFault.TheVariants as refusals
+use Rattle.st_refusals.specs.declared.fault.LineFault.TheVariants as refusals
 use Rattle.st_batch.specs.Commands.{begins_command}
 use Rattle.st_batch.specs.Limits.{most_line_bytes}
 use Rattle.st_batch.specs.Returns.{CoveredLineReturns, TdbLineReturns, TellsTick}

@@ -7,8 +7,8 @@ use Rattle.st_forms.specs.declared.form.Form.TheVariants.{Seconds}
 use Rattle.st_pool.specs.declared.kernel.Kernel.{Kernel}
 use Rattle.st_text.specs.Lines.{without_cr}
 use Rattle.st_batch.specs.declared.answer.Answer.TheVariants.{Text, Refused}
-use Rattle.st_batch.specs.declared.kernel_fault.KernelFault.TheVariants as kernel_fault
-use Rattle.st_batch.specs.declared.fault.LineFault.TheVariants.{NoFile, NotLoaded}
+use Rattle.st_refusals.specs.declared.kernel_fault.KernelFault.TheVariants as kernel_fault
+use Rattle.st_refusals.specs.declared.fault.LineFault.TheVariants.{NoFile, NotLoaded}
 use Rattle.st_words.specs.declared.job.FromKind.TheVariants as from
 use Rattle.st_words.specs.declared.job.ToKind.TheVariants as to
 use Rattle.st_words.specs.declared.job.Work.TheVariants.{Batch}

@@ -4,7 +4,7 @@ use Rattle.std.proofs.lemmas.List.Sums.{sum_by-cons}
 use Rattle.st_answers.specs.Ready.{IsReady}
 use Rattle.st_batch.specs.declared.answer.Answer.{Answer}
 use Rattle.st_batch.specs.declared.answer.Answer.TheVariants.{Text, Refused}
-use Rattle.st_batch.specs.declared.fault.LineFault.TheVariants as line
+use Rattle.st_refusals.specs.declared.fault.LineFault.TheVariants as line
 use Rattle.st_batch.specs.Causes.{is_file_fault}
 use Rattle.st_batch.specs.Laws.{EveryBeginningGoesOn}
 use Rattle.st_batch.specs.Session.{MayAnswer, RunsTo}

@@ -14,9 +14,9 @@ use Rattle.st_routes.specs.declared.fault.TimeFault.TheVariants as time
 use Rattle.st_text.specs.Lines.{trimmed}
 use Rattle.st_batch.specs.declared.answer.Answer.{Answer}
 use Rattle.st_batch.specs.declared.answer.Answer.TheVariants.{Refused}
-use Rattle.st_batch.specs.declared.kernel_fault.KernelFault.{KernelFault}
-use Rattle.st_batch.specs.declared.kernel_fault.KernelFault.TheVariants as kernel
-use Rattle.st_batch.specs.declared.fault.LineFault.TheVariants.{FileFault, Undecided}
+use Rattle.st_refusals.specs.declared.kernel_fault.KernelFault.{KernelFault}
+use Rattle.st_refusals.specs.declared.kernel_fault.KernelFault.TheVariants as kernel
+use Rattle.st_refusals.specs.declared.fault.LineFault.TheVariants.{FileFault, Undecided}
 use Rattle.st_batch.specs.Causes.{is_file_fault}
 use Rattle.st_batch.specs.Commands.{CommandGives, begins_command, load_answer, unload_answer}
 use Rattle.st_batch.specs.Laws.{Agree, ExactIsDecided, IsDecided, OneAnswer, OneDecidedAnswer, OneDecidedRun, UndecidedHasASine}

@@ -9,8 +9,8 @@ use Rattle.st_kernel_text.specs.declared.fault.TextFault.TheVariants as text_fau
 use Rattle.st_outside.specs.Entries.{Entries, bytes_of}
 use Rattle.st_pool.specs.Loaded.{value_count, loaded_count}
 use Rattle.st_pool.specs.declared.kernel.Kernel.{Kernel}
-use Rattle.st_batch.specs.declared.kernel_fault.KernelFault.{KernelFault}
-use Rattle.st_batch.specs.declared.kernel_fault.KernelFault.TheVariants.{NoFile, FileFault, FileTooLong, KernelText, TooManyKernels, TooManyValues, OutOfMemory}
+use Rattle.st_refusals.specs.declared.kernel_fault.KernelFault.{KernelFault}
+use Rattle.st_refusals.specs.declared.kernel_fault.KernelFault.TheVariants.{NoFile, FileFault, FileTooLong, KernelText, TooManyKernels, TooManyValues, OutOfMemory}
 use Rattle.st_batch.specs.declared.load.TheConstants.{MAX_FILE}
 use Rattle.st_batch.specs.Laws.{EveryLoadingGives, OneLoading}
 use Rattle.st_batch.specs.Load.{LoadGives, Takes}

@@ -7,13 +7,15 @@ use Rattle.st_words.specs.declared.fault.SetupFault.{SetupFault}
 use Rattle.st_words.specs.declared.fault.SetupFault.TheVariants as setup
 use Rattle.st_words.specs.declared.job.Job.{Job}
 use Rattle.st_words.proofs.OneSetup as words
-use Rattle.st_batch.specs.declared.fault.LineFault.{LineFault}
-use Rattle.st_batch.specs.declared.fault.LineFault.TheVariants as line
-use Rattle.st_batch.specs.declared.kernel_fault.KernelFault.{KernelFault}
-use Rattle.st_batch.specs.declared.kernel_fault.KernelFault.TheVariants as kernel
-use Rattle.st_batch.specs.Load.{LoadGives, line_fault}
+use Rattle.st_refusals.specs.declared.fault.LineFault.{LineFault}
+use Rattle.st_refusals.specs.declared.fault.LineFault.TheVariants as line
+use Rattle.st_refusals.specs.declared.kernel_fault.KernelFault.{KernelFault}
+use Rattle.st_refusals.specs.declared.kernel_fault.KernelFault.TheVariants as kernel
+use Rattle.st_batch.specs.Load.{LoadGives}
+use Rattle.st_refusals.specs.Faults.{line_fault}
 use Rattle.st_batch.specs.Setting.{Loaded, Setting, State}
-use Rattle.st_batch.specs.Setup.{ClockGives, LoadsGive, SetupGives, asks_clock, files_fault, id_fault, with_clock}
+use Rattle.st_batch.specs.Setup.{ClockGives, LoadsGive, SetupGives, asks_clock, with_clock}
+use Rattle.st_refusals.specs.Faults.{files_fault, id_fault}
 use Rattle.st_batch.proofs.OneLoad.{one-load}
 
 same-id : (m n : ℕ) → ◌≡◌ {A = Result ℕ IdFault} (Ok m) (Ok n) → m ≡ n

@@ -4,7 +4,7 @@ use Rattle.std.proofs.KnownBytes.{Appends-nil}
 use Rattle.st_outside.specs.States.{FilesState, InputState}
 use Rattle.st_words.specs.Reading.{WordsGive}
 use Rattle.st_words.specs.declared.fault.WordFault.{WordFault}
-use Rattle.st_batch.specs.declared.fault.LineFault.{LineFault}
+use Rattle.st_refusals.specs.declared.fault.LineFault.{LineFault}
 use Rattle.st_words.specs.declared.job.Job.{Job}
 use Rattle.st_words.specs.declared.job.Work.TheVariants.{Batch}
 use Rattle.st_batch.specs.declared.status.Status.{Status}

@@ -9,7 +9,7 @@ use Rattle.st_samples.specs.JobLine.{IsSampleLine}
 use Rattle.st_samples.specs.Summary.{Summary, with_answer}
 use Rattle.st_batch.specs.declared.answer.Answer.{Answer}
 use Rattle.st_batch.specs.declared.answer.Answer.TheVariants.{Text, Refused}
-use Rattle.st_batch.specs.declared.fault.LineFault.TheVariants as line
+use Rattle.st_refusals.specs.declared.fault.LineFault.TheVariants as line
 use Rattle.st_batch.specs.Causes.{AreCounted, IsAnswerCaused}
 use Rattle.st_batch.specs.SampleSteps.{SumsLine}
 use Rattle.st_batch.specs.Session.{MayAnswer}

@@ -6,15 +6,16 @@ use Rattle.st_text.specs.Lines.{trimmed}
 use Rattle.st_batch.specs.declared.answer.Answer.{Answer}
 use Rattle.st_batch.specs.declared.answer.Answer.TheVariants.{Text, Refused}
 use Rattle.st_outside.specs.Causes.{FileCounts}
-use Rattle.st_batch.specs.declared.kernel_fault.KernelFault.{KernelFault}
-use Rattle.st_batch.specs.declared.kernel_fault.KernelFault.TheVariants as kernel
+use Rattle.st_refusals.specs.declared.kernel_fault.KernelFault.{KernelFault}
+use Rattle.st_refusals.specs.declared.kernel_fault.KernelFault.TheVariants as kernel
 use Rattle.st_batch.specs.Causes.{IsAnswerCaused, IsCaused}
-use Rattle.st_batch.specs.declared.fault.LineFault.{LineFault}
-use Rattle.st_batch.specs.declared.fault.LineFault.TheVariants.{BadCommand, LineTooLong, NotLoaded, OutOfMemory}
+use Rattle.st_refusals.specs.declared.fault.LineFault.{LineFault}
+use Rattle.st_refusals.specs.declared.fault.LineFault.TheVariants.{BadCommand, LineTooLong, NotLoaded, OutOfMemory}
 use Rattle.st_words.specs.declared.job.Job.{Job}
 use Rattle.st_batch.specs.declared.session.TheConstants.{MAX_LINE}
 use Rattle.st_batch.specs.Commands.{LoadAnswers, begins_command, load_answer, unload_answer}
-use Rattle.st_batch.specs.Load.{LoadGives, line_fault}
+use Rattle.st_batch.specs.Load.{LoadGives}
+use Rattle.st_refusals.specs.Faults.{line_fault}
 use Rattle.st_batch.specs.Session.{MayAnswer, TextGives}
 use Rattle.st_batch.specs.Setting.{Loaded, Setting}
 use Rattle.st_batch.specs.Times.{TimeGives}

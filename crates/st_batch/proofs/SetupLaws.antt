@@ -1,11 +1,12 @@
 -- A refusal of a loading as the refusal of a line or a setup, and what the setup of a job gives.
 use Rattle.std.proofs.Common.{◌≡◌, ◌≢◌, Option, Err, List, ℕ, ap, ◌∙◌}
 use Rattle.st_outside.specs.Entries.{Entries}
-use Rattle.st_batch.specs.declared.kernel_fault.KernelFault.{KernelFault}
-use Rattle.st_batch.specs.declared.kernel_fault.KernelFault.TheVariants as kernel
-use Rattle.st_batch.specs.declared.fault.LineFault.{LineFault}
-use Rattle.st_batch.specs.declared.fault.LineFault.TheVariants as line
-use Rattle.st_batch.specs.Load.{LoadGives, line_fault}
+use Rattle.st_refusals.specs.declared.kernel_fault.KernelFault.{KernelFault}
+use Rattle.st_refusals.specs.declared.kernel_fault.KernelFault.TheVariants as kernel
+use Rattle.st_refusals.specs.declared.fault.LineFault.{LineFault}
+use Rattle.st_refusals.specs.declared.fault.LineFault.TheVariants as line
+use Rattle.st_batch.specs.Load.{LoadGives}
+use Rattle.st_refusals.specs.Faults.{line_fault}
 use Rattle.st_batch.specs.Setting.{Loaded}
 
 -- a loading that gives something isn't refused for want of memory

@@ -12,8 +12,8 @@ use Rattle.st_tables.specs.declared.fault.TableFault.TheVariants as table
 use Rattle.st_words.specs.declared.job.Job.{Job}
 use Rattle.st_batch.specs.declared.answer.Answer.{Answer}
 use Rattle.st_batch.specs.declared.answer.Answer.TheVariants.{Refused}
-use Rattle.st_batch.specs.declared.fault.LineFault.{LineFault}
-use Rattle.st_batch.specs.declared.fault.LineFault.TheVariants as line
+use Rattle.st_refusals.specs.declared.fault.LineFault.{LineFault}
+use Rattle.st_refusals.specs.declared.fault.LineFault.TheVariants as line
 use Rattle.st_batch.specs.Laws.{Agree, IsDecided}
 use Rattle.st_batch.specs.Setting.{Loaded}
 use Rattle.st_batch.specs.Times.{TimeGives, answer_fault, clock_id, table_fault, time_answer, time_fault}

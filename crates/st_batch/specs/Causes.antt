@@ -3,9 +3,9 @@ use Rattle.std.specs.Prelude.{◌≡◌, ◌+◌, ◌*◌, count_by, Bool, true,
 use Rattle.st_outside.specs.Causes.{FileCounts, Rose, RoseBeyond, RoseBy}
 use Rattle.st_batch.specs.declared.answer.Answer.{Answer}
 use Rattle.st_batch.specs.declared.answer.Answer.TheVariants.{Refused}
-use Rattle.st_batch.specs.declared.fault.LineFault.{LineFault}
+use Rattle.st_refusals.specs.declared.fault.LineFault.{LineFault}
 use Rattle.st_batch.specs.Limits.{most_file_bytes}
-use Rattle.st_batch.specs.declared.fault.LineFault.TheVariants as line
+use Rattle.st_refusals.specs.declared.fault.LineFault.TheVariants as line
 
 abbrev pub is_no_file : Answer → Bool
 is_no_file (Refused line.NoFile) = true

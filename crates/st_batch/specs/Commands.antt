@@ -6,10 +6,11 @@ use Rattle.st_text.specs.Bytes.{are_blanks}
 use Rattle.st_text.specs.Lines.{skip_blanks}
 use Rattle.st_batch.specs.declared.answer.Answer.{Answer}
 use Rattle.st_batch.specs.declared.answer.Answer.TheVariants.{Text, Refused}
-use Rattle.st_batch.specs.declared.kernel_fault.KernelFault.{KernelFault}
-use Rattle.st_batch.specs.declared.fault.LineFault.TheVariants.{BadCommand, NotLoaded}
+use Rattle.st_refusals.specs.declared.kernel_fault.KernelFault.{KernelFault}
+use Rattle.st_refusals.specs.declared.fault.LineFault.TheVariants.{BadCommand, NotLoaded}
 use Rattle.st_batch.specs.Limits.{most_file_name_bytes}
-use Rattle.st_batch.specs.Load.{LoadGives, line_fault}
+use Rattle.st_batch.specs.Load.{LoadGives}
+use Rattle.st_refusals.specs.Faults.{line_fault}
 use Rattle.st_batch.specs.Setting.{Loaded}
 
 -- a name by which a file may be loaded: UTF-8 of 1 to 255 bytes

@@ -6,9 +6,9 @@ use Rattle.st_answers.specs.Ready.{IsReady}
 use Rattle.st_text.specs.Lines.{trimmed}
 use Rattle.st_batch.specs.declared.answer.Answer.{Answer}
 use Rattle.st_batch.specs.declared.answer.Answer.TheVariants.{Refused}
-use Rattle.st_batch.specs.declared.kernel_fault.KernelFault.{KernelFault}
-use Rattle.st_batch.specs.declared.kernel_fault.KernelFault.TheVariants as kernel
-use Rattle.st_batch.specs.declared.fault.LineFault.TheVariants.{FileFault, Undecided}
+use Rattle.st_refusals.specs.declared.kernel_fault.KernelFault.{KernelFault}
+use Rattle.st_refusals.specs.declared.kernel_fault.KernelFault.TheVariants as kernel
+use Rattle.st_refusals.specs.declared.fault.LineFault.TheVariants.{FileFault, Undecided}
 use Rattle.st_words.specs.Reading.{WordsGive}
 use Rattle.st_words.specs.declared.job.Job.{Job}
 use Rattle.st_batch.specs.declared.status.Status.{Status}

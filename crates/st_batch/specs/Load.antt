@@ -2,18 +2,13 @@
 use Rattle.std.specs.Prelude.{◌≡◌, ℕ, ◌+◌, ◌<◌, ◌≤◌, Option, Some, None, Result, Ok, Err, List, [], ◌∷◌, ◌++◌, length, ⊤}
 use Rattle.st_kernel_text.specs.File.{Reads}
 use Rattle.st_kernel_text.specs.declared.assignment.Assignment.{Assignment}
-use Rattle.st_kernel_text.specs.declared.fault.TextFault.{TextFault}
 use Rattle.st_kernel_text.specs.declared.fault.TextFault.TheVariants as text
 use Rattle.st_outside.specs.Entries.{Entries, bytes_of, IsAbsent}
 use Rattle.st_pool.specs.Limits.{most_kernels, most_values}
 use Rattle.st_pool.specs.Loaded.{value_count, loaded_count}
-use Rattle.st_pool.specs.declared.fault.LoadFault.{LoadFault}
-use Rattle.st_pool.specs.declared.fault.LoadFault.TheVariants as pool
 use Rattle.st_pool.specs.declared.kernel.Kernel.{Kernel}
-use Rattle.st_batch.specs.declared.kernel_fault.KernelFault.{KernelFault}
-use Rattle.st_batch.specs.declared.kernel_fault.KernelFault.TheVariants.{NoFile, FileFault, FileTooLong, KernelText, TooManyKernels, TooManyValues, OutOfMemory}
-use Rattle.st_batch.specs.declared.fault.LineFault.{LineFault}
-use Rattle.st_batch.specs.declared.fault.LineFault.TheVariants as line
+use Rattle.st_refusals.specs.declared.kernel_fault.KernelFault.{KernelFault}
+use Rattle.st_refusals.specs.declared.kernel_fault.KernelFault.TheVariants.{NoFile, FileFault, FileTooLong, KernelText, TooManyKernels, TooManyValues, OutOfMemory}
 use Rattle.st_batch.specs.Limits.{most_file_bytes}
 use Rattle.st_batch.specs.Setting.{Loaded}
 
@@ -58,24 +53,3 @@ LoadGives files loaded name (Err FileFault) = ⊤
 LoadGives files loaded name (Err FileTooLong) = HasLongFile files name
 LoadGives files loaded name (Err OutOfMemory) = ⊥
 LoadGives files loaded name result = FileGives files loaded name result
-
--- the refusal of a line or a setup whose loading is refused
-abbrev pub line_fault : KernelFault → LineFault
-line_fault NoFile = line.NoFile
-line_fault FileFault = line.FileFault
-line_fault FileTooLong = line.FileTooLong
-line_fault (KernelText n cause) = line.KernelText n cause
-line_fault TooManyKernels = line.TooManyKernels
-line_fault TooManyValues = line.TooManyValues
-line_fault OutOfMemory = line.OutOfMemory
-
--- the refusal of a file that is no kernel
-abbrev pub fault_of_text : TextFault → KernelFault
-fault_of_text (text.At line cause) = KernelText line cause
-fault_of_text text.OutOfMemory = OutOfMemory
-
--- the refusal of a kernel that the pool doesn't take
-abbrev pub fault_of_pool : LoadFault → KernelFault
-fault_of_pool pool.TooManyKernels = TooManyKernels
-fault_of_pool pool.TooManyValues = TooManyValues
-fault_of_pool pool.OutOfMemory = OutOfMemory

@@ -7,8 +7,8 @@ use Rattle.st_kernel_text.specs.declared.assignment.Assignment.{Assignment}
 use Rattle.st_kernel_text.specs.declared.fault.TextFault.{TextFault}
 use Rattle.st_kernel_text.specs.declared.fault.TextFault.TheVariants as text
 use Rattle.st_outside.specs.Entries.{Entries}
-use Rattle.st_batch.specs.declared.kernel_fault.KernelFault.{KernelFault}
-use Rattle.st_batch.specs.declared.kernel_fault.KernelFault.TheVariants.{FileFault, FileTooLong, KernelText, OutOfMemory}
+use Rattle.st_refusals.specs.declared.kernel_fault.KernelFault.{KernelFault}
+use Rattle.st_refusals.specs.declared.kernel_fault.KernelFault.TheVariants.{FileFault, FileTooLong, KernelText, OutOfMemory}
 use Rattle.st_batch.specs.Limits.{most_file_bytes}
 use Rattle.st_batch.specs.Load.{HasFile}
 

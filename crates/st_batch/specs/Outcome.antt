@@ -6,7 +6,7 @@ use Rattle.st_outside.specs.States.{FilesState, InputState}
 use Rattle.st_text.specs.Lines.{lines_of}
 use Rattle.st_batch.specs.declared.answer.Answer.{Answer}
 use Rattle.st_batch.specs.declared.answer.Answer.TheVariants.{Text, Refused}
-use Rattle.st_batch.specs.declared.fault.LineFault.{LineFault}
+use Rattle.st_refusals.specs.declared.fault.LineFault.{LineFault}
 use Rattle.st_words.specs.Reading.{WordsGive}
 use Rattle.st_words.specs.declared.fault.WordFault.{WordFault}
 use Rattle.st_words.specs.declared.job.Job.{Job}

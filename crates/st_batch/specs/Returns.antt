@@ -8,7 +8,7 @@ use Rattle.st_scales.specs.declared.scale.Scale.TheVariants.{Tdb}
 use Rattle.st_ticks.specs.Tick.{IsCanonical}
 use Rattle.st_batch.specs.declared.answer.Answer.{Answer}
 use Rattle.st_batch.specs.declared.answer.Answer.TheVariants.{Text, Refused}
-use Rattle.st_batch.specs.declared.fault.LineFault.TheVariants.{Undecided}
+use Rattle.st_refusals.specs.declared.fault.LineFault.TheVariants.{Undecided}
 use Rattle.st_batch.specs.declared.status.Status.{Status}
 use Rattle.st_words.specs.declared.job.Job.{Job}
 use Rattle.st_batch.specs.Limits.{most_line_bytes}

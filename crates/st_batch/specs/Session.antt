@@ -3,7 +3,7 @@ use Rattle.std.specs.Prelude.{◌≡◌, ℕ, ◌<◌, ◌≤◌, true, false, L
 use Rattle.st_text.specs.Lines.{trimmed}
 use Rattle.st_batch.specs.declared.answer.Answer.{Answer}
 use Rattle.st_batch.specs.declared.answer.Answer.TheVariants.{Refused}
-use Rattle.st_batch.specs.declared.fault.LineFault.TheVariants.{LineTooLong}
+use Rattle.st_refusals.specs.declared.fault.LineFault.TheVariants.{LineTooLong}
 use Rattle.st_batch.specs.Commands.{CommandGives, begins_command}
 use Rattle.st_batch.specs.Limits.{most_line_bytes}
 use Rattle.st_batch.specs.Setting.{Loaded, Setting}

@@ -3,17 +3,16 @@
 use Rattle.std.specs.Prelude.{◌≡◌, ℕ, Bool, true, false, ◌&&◌, Option, Some, is_none, Result, Ok, Err, List, [], ◌∷◌, ◌⊎◌}
 use Rattle.st_outside.specs.Entries.{Entries}
 use Rattle.st_ticks.specs.declared.variable.Var.{Var}
-use Rattle.st_ticks.specs.declared.variable.Var.TheVariants.{SpacecraftId}
 use Rattle.st_words.specs.Setup.{SetupClock, SetupFiles}
 use Rattle.st_words.specs.declared.job.Job.{Job}
 use Rattle.st_words.specs.declared.fault.IdFault.{IdFault}
-use Rattle.st_words.specs.declared.fault.IdFault.TheVariants as id
 use Rattle.st_words.specs.declared.fault.SetupFault.{SetupFault}
 use Rattle.st_words.specs.declared.fault.SetupFault.TheVariants as setup
-use Rattle.st_batch.specs.declared.fault.LineFault.{LineFault}
-use Rattle.st_batch.specs.declared.fault.LineFault.TheVariants.{NoVariable, WrongKind, BadId, OutOfMemory}
-use Rattle.st_batch.specs.declared.kernel_fault.KernelFault.{KernelFault}
-use Rattle.st_batch.specs.Load.{LoadGives, line_fault}
+use Rattle.st_refusals.specs.declared.fault.LineFault.{LineFault}
+use Rattle.st_refusals.specs.declared.fault.LineFault.TheVariants.{WrongKind}
+use Rattle.st_refusals.specs.declared.kernel_fault.KernelFault.{KernelFault}
+use Rattle.st_batch.specs.Load.{LoadGives}
+use Rattle.st_refusals.specs.Faults.{line_fault}
 use Rattle.st_batch.specs.Setting.{Loaded, Setting, State}
 use Rattle.st_answers.specs.Sides.{has_clock}
 
@@ -46,17 +45,6 @@ abbrev pub ClockGives : Bool → Job → Loaded → Result Job IdFault → Type 
 ClockGives false job loaded result = result ≡ Ok job
 ClockGives true job loaded (Ok after) = (n : ℕ) × SetupClock loaded (Ok n) × (after ≡ with_clock job n)
 ClockGives true job loaded (Err fault) = SetupClock loaded (Err fault)
-
--- the refusal of a setup that names no files
-abbrev pub files_fault : SetupFault → LineFault
-files_fault (setup.WrongKind var) = WrongKind var
-files_fault setup.OutOfMemory = OutOfMemory
-
--- the refusal of a setup that names no clock
-abbrev pub id_fault : IdFault → LineFault
-id_fault id.Missing = NoVariable SpacecraftId
-id_fault id.WrongKind = WrongKind SpacecraftId
-id_fault id.BadId = BadId
 
 -- the setup file is loaded under its own name into the empty list, and asks for the files of these names
 pub record Begins (s : Setting) (first : Loaded) (names : List (List ℕ)) : Type 0 where

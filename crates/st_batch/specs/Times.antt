@@ -10,8 +10,8 @@ use Rattle.st_tables.specs.declared.fault.TableFault.TheVariants as table
 use Rattle.st_words.specs.declared.job.Job.{Job}
 use Rattle.st_batch.specs.declared.answer.Answer.{Answer}
 use Rattle.st_batch.specs.declared.answer.Answer.TheVariants.{Text, Refused}
-use Rattle.st_batch.specs.declared.fault.LineFault.{LineFault}
-use Rattle.st_batch.specs.declared.fault.LineFault.TheVariants as line
+use Rattle.st_refusals.specs.declared.fault.LineFault.{LineFault}
+use Rattle.st_refusals.specs.declared.fault.LineFault.TheVariants as line
 use Rattle.st_batch.specs.Setting.{Loaded}
 
 -- the refusal of a line whose tables are refused, for a clock of this id

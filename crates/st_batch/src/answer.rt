@@ -3,10 +3,10 @@
 ghost use Rattle.std.specs.Prelude.{◌≡◌, ◌≢◌, [], ◌∷◌, ◌++◌, IfOk, OnOk, OnErr};
 ghost use Rattle.st_batch.specs.declared.answer.Answer.TheVariants.{Text, Refused};
 ghost use Rattle.st_batch.specs.Texts as texts;
+ghost use Rattle.st_refusals.specs.Texts.{refusal_text};
 
-use crate::fault::LineFault;
-use crate::refusal::put_refusal;
 use st_decimal::{Line, OutOfMemory};
+use st_refusals::{LineFault, put_refusal};
 use st_words::{WordFault, put_word_fault};
 use std::alloc::Global;
 
@@ -44,7 +44,7 @@ pub fn put_answer(out: &mut Vec<u8>, answer: &Answer) -> Result<(), OutOfMemory>
 /// Appends a line that names a refusal behind some words.
 pub fn put_refused(out: &mut Vec<u8>, words: &[u8], fault: &LineFault) -> Result<(), OutOfMemory>
     requires { fault.now ≢ LineFault.OutOfMemory }
-    ensures { OnOk result (out.new.items ≡ out.old.items ++ (words.now ++ (texts.refusal_text fault.now ++ (10 ∷ [])))) }
+    ensures { OnOk result (out.new.items ≡ out.old.items ++ (words.now ++ (refusal_text fault.now ++ (10 ∷ [])))) }
 {
     out.extend_from_slice(words)?;
     put_refusal(out, fault)?;

@@ -4,16 +4,15 @@ ghost use Rattle.std.specs.Prelude.{◌≡◌, ◌≢◌, ◌≤◌, [], true, f
 ghost use Rattle.st_outside.specs.States.{KeepsFiles};
 ghost use Rattle.st_batch.specs.Causes.{IsAnswerCaused};
 ghost use Rattle.st_batch.specs.Commands.{CommandGives, IsFileName, IsNoLoad, LoadAnswers, NamesFile, UnloadAnswers, begins_command};
-ghost use Rattle.st_batch.specs.Load.{line_fault};
+ghost use Rattle.st_refusals.specs.Faults.{line_fault};
 ghost use Rattle.st_batch.specs.declared.answer.Answer.TheVariants.{Refused, Text};
 
 use crate::answer::{Answer, said};
-use crate::fault::LineFault;
-use crate::kernel_fault::KernelFault;
 use crate::load::load_file;
 use st_decimal::OutOfMemory;
 use st_outside::Files;
 use st_pool::NotLoaded;
+use st_refusals::{KernelFault, LineFault};
 use st_tables::Kernels;
 use st_text::skip_blanks;
 use std::alloc::{AllocError, Global};

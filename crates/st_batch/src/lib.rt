@@ -8,12 +8,9 @@
 mod answer;
 mod answering;
 mod command;
-mod fault;
 mod input;
-mod kernel_fault;
 pub mod laws;
 mod load;
-mod refusal;
 mod sample;
 mod session;
 mod setup;
@@ -23,8 +20,7 @@ mod top;
 mod write;
 
 pub use crate::answer::Answer;
-pub use crate::fault::LineFault;
-pub use crate::refusal::put_refusal;
 pub use crate::session::Session;
 pub use crate::status::Status;
 pub use crate::top::run;
+pub use st_refusals::{LineFault, put_refusal};

@@ -5,13 +5,14 @@ ghost use Rattle.st_outside.specs.Causes.{AreLater};
 ghost use Rattle.st_outside.specs.States.{KeepsFiles};
 ghost use Rattle.st_kernel_text.specs.Reader.{Fed};
 ghost use Rattle.st_batch.specs.Causes.{IsCaused};
-ghost use Rattle.st_batch.specs.Load.{LoadGives, line_fault};
+ghost use Rattle.st_batch.specs.Load.{LoadGives};
+ghost use Rattle.st_refusals.specs.Faults.{line_fault};
 ghost use Rattle.st_batch.specs.LoadSteps.{FedRest, FileReads, RestReads, RestRefuses, Stops};
 ghost use Rattle.st_batch.specs.Setting.{Loaded};
 
-use crate::kernel_fault::KernelFault;
 use st_kernel_text::{AssignmentList, KernelReader};
 use st_outside::{Files, OpenFault};
+use st_refusals::KernelFault;
 use st_tables::Kernels;
 use std::alloc::Global;
 

@@ -11,13 +11,12 @@ ghost use Rattle.st_batch.specs.Texts.{as_counted};
 ghost use Rattle.st_batch.specs.declared.answer.Answer.TheVariants.{Refused};
 
 use crate::answer::Answer;
-use crate::fault::LineFault;
-use crate::refusal::put_refusal;
 use crate::session::Session;
 use crate::status::Status;
 use crate::write::deliver;
 use st_decimal::OutOfMemory;
 use st_outside::{Files, Sink};
+use st_refusals::{LineFault, put_refusal};
 use st_samples::{Summary, next, put_summary};
 use std::alloc::Global;
 

@@ -14,13 +14,13 @@ ghost use Rattle.st_batch.specs.Setup.{SetupGives};
 
 use crate::answer::Answer;
 use crate::command::{answer_command, is_command};
-use crate::fault::LineFault;
 use crate::load::load_file;
 use crate::setup::{find_clock, load_files};
 use crate::time;
 use st_decimal::{Line, OutOfMemory};
 use st_outside::Files;
 use st_pool::Pool;
+use st_refusals::LineFault;
 use st_samples::job_line;
 use st_tables::Kernels;
 use st_text::trim;

@@ -4,15 +4,15 @@ ghost use Rattle.std.specs.Prelude.{◌≡◌, ◌≢◌, [], false, Ok, Err, If
 ghost use Rattle.st_answers.specs.Sides as sides;
 ghost use Rattle.st_outside.specs.States.{KeepsFiles};
 ghost use Rattle.st_batch.specs.Causes.{IsCaused};
-ghost use Rattle.st_batch.specs.Load.{line_fault};
+ghost use Rattle.st_refusals.specs.Faults.{line_fault};
 ghost use Rattle.st_batch.specs.Setup.{ClockGives, LoadsGive, asks_clock};
 
-use crate::kernel_fault::KernelFault;
 use crate::load::load_file;
 use st_dates::System;
 use st_decimal::KText;
 use st_outside::Files;
 use st_pool::Pool;
+use st_refusals::KernelFault;
 use st_tables::Kernels;
 use st_words::{IdFault, Job, setup_clock};
 use std::alloc::Global;

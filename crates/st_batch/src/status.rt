@@ -4,8 +4,8 @@ ghost use Rattle.std.specs.Prelude.{◌≡◌};
 ghost use Rattle.st_batch.specs.LinesSteps as lines;
 ghost use Rattle.st_batch.specs.Texts.{code_of};
 
-use crate::fault::LineFault;
 use st_outside::SinkFault;
+use st_refusals::LineFault;
 use st_words::WordFault;
 
 /// How a run ended. Its number is the program's exit status.

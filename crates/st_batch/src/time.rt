@@ -6,9 +6,9 @@ ghost use Rattle.st_batch.specs.Times as times;
 ghost use Rattle.st_batch.specs.Times.{TimeGives};
 
 use crate::answer::Answer;
-use crate::fault::LineFault;
 use st_answers::{AnswerFault, answer_time};
 use st_decimal::OutOfMemory;
+use st_refusals::LineFault;
 use st_routes::TimeFault;
 use st_tables::{Kernels, TableFault};
 use st_words::Job;

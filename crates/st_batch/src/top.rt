@@ -12,12 +12,12 @@ ghost use Rattle.st_words.specs.Reading.{WordsGive};
 ghost use Rattle.st_batch.specs.declared.status.Status.TheVariants.{BadSetup, BadWords};
 
 use crate::answer::{put_refused, put_words_refused};
-use crate::fault::LineFault;
 use crate::input::answer_lines;
 use crate::session::Session;
 use crate::status::Status;
 use crate::write::deliver;
 use st_outside::{Files, Sink, Source};
+use st_refusals::LineFault;
 use st_words::{Job, WordFault, read_words};
 use std::alloc::Global;
 

@@ -1,7 +1,7 @@
 use Rattle.std.proofs.Common.{◌≡◌, ◌≢◌, Err, IfErr, Result, sym, subst}
 use Rattle.std.proofs.lemmas.Result.{err_from_is_err_and}
-use Rattle.st_batch.specs.declared.kernel_fault.KernelFault.{KernelFault}
-use Rattle.st_batch.specs.declared.kernel_fault.KernelFault.TheVariants.{OutOfMemory}
+use Rattle.st_refusals.specs.declared.kernel_fault.KernelFault.{KernelFault}
+use Rattle.st_refusals.specs.declared.kernel_fault.KernelFault.TheVariants.{OutOfMemory}
 use Rattle.st_batch.specs.Load.{LoadGives}
 use Rattle.st_batch.proofs.load.load_file.Goals as goal
 

@@ -1,6 +1,6 @@
 use Rattle.std.proofs.Common.{◌≡◌, false, drop, Result}
 use Rattle.st_outside.specs.States.{KeepsFiles}
-use Rattle.st_batch.specs.declared.kernel_fault.KernelFault.{KernelFault}
+use Rattle.st_refusals.specs.declared.kernel_fault.KernelFault.{KernelFault}
 use Rattle.st_batch.specs.Setting.{Loaded}
 use Rattle.st_batch.specs.Setup.{LoadsGive}
 use Rattle.st_batch.proofs.setup.load_files.Given as goal

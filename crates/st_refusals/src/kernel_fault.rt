@@ -34,7 +34,7 @@ pub enum KernelFault {
 }
 
 impl From<OutOfMemory> for KernelFault {
-    ghost use Rattle.st_batch.specs.declared.kernel_fault.KernelFault.TheVariants as fault;
+    ghost use Rattle.st_refusals.specs.declared.kernel_fault.KernelFault.TheVariants as fault;
 
     ghost from_gives = { λ _ e. e ≡ fault.OutOfMemory };
 
@@ -44,7 +44,7 @@ impl From<OutOfMemory> for KernelFault {
 }
 
 impl From<TextFault> for KernelFault {
-    ghost use Rattle.st_batch.specs.Load.{fault_of_text};
+    ghost use Rattle.st_refusals.specs.Faults.{fault_of_text};
 
     ghost from_gives = { λ fault e. e ≡ fault_of_text fault };
 
@@ -57,7 +57,7 @@ impl From<TextFault> for KernelFault {
 }
 
 impl From<LoadFault> for KernelFault {
-    ghost use Rattle.st_batch.specs.Load.{fault_of_pool};
+    ghost use Rattle.st_refusals.specs.Faults.{fault_of_pool};
 
     ghost from_gives = { λ fault e. e ≡ fault_of_pool fault };
 

@@ -1,8 +1,8 @@
 //! The texts of refusals.
 
 ghost use Rattle.std.specs.Prelude.{◌≡◌, ◌≢◌, ◌∷◌, ◌++◌, OnOk, OnErr};
-ghost use Rattle.st_batch.specs.Texts as texts;
-ghost use Rattle.st_batch.specs.Texts.{refusal_details, refusal_name, refusal_text};
+ghost use Rattle.st_refusals.specs.Texts as texts;
+ghost use Rattle.st_refusals.specs.Texts.{refusal_details, refusal_name, refusal_text};
 ghost use Rattle.st_tables.specs.Names.{var_name};
 ghost use Rattle.st_text.specs.Bytes.{decimal_digits};
 

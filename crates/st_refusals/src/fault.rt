@@ -90,15 +90,14 @@ pub enum LineFault {
     /// Two times around the exact one, at most 10^-12 s apart, print differently.
     #[error("undecided")]
     Undecided,
-    /// Memory was refused. No line is refused so: a run then ends with
-    /// [`Status::OutOfMemory`](crate::Status::OutOfMemory).
+    /// Memory was refused. No line is refused so: a run then ends as one that wanted memory.
     #[error("out of memory")]
     OutOfMemory,
 }
 
 impl From<KernelFault> for LineFault {
     ghost use Rattle.std.specs.Prelude.{◌≡◌};
-    ghost use Rattle.st_batch.specs.Load.{line_fault};
+    ghost use Rattle.st_refusals.specs.Faults.{line_fault};
 
     ghost from_gives = { λ fault e. e ≡ line_fault fault };
 
@@ -117,7 +116,7 @@ impl From<KernelFault> for LineFault {
 
 impl From<SetupFault> for LineFault {
     ghost use Rattle.std.specs.Prelude.{◌≡◌};
-    ghost use Rattle.st_batch.specs.Setup.{files_fault};
+    ghost use Rattle.st_refusals.specs.Faults.{files_fault};
 
     ghost from_gives = { λ fault e. e ≡ files_fault fault };
 
@@ -131,7 +130,7 @@ impl From<SetupFault> for LineFault {
 
 impl From<IdFault> for LineFault {
     ghost use Rattle.std.specs.Prelude.{◌≡◌};
-    ghost use Rattle.st_batch.specs.Setup.{id_fault};
+    ghost use Rattle.st_refusals.specs.Faults.{id_fault};
 
     ghost from_gives = { λ fault e. e ≡ id_fault fault };
 

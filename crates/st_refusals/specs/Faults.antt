@@ -1,0 +1,46 @@
+-- The refusal of a setup or a line for the fault of a crate below.
+use Rattle.st_kernel_text.specs.declared.fault.TextFault.{TextFault}
+use Rattle.st_kernel_text.specs.declared.fault.TextFault.TheVariants as text
+use Rattle.st_pool.specs.declared.fault.LoadFault.{LoadFault}
+use Rattle.st_pool.specs.declared.fault.LoadFault.TheVariants as pool
+use Rattle.st_ticks.specs.declared.variable.Var.TheVariants.{SpacecraftId}
+use Rattle.st_words.specs.declared.fault.IdFault.{IdFault}
+use Rattle.st_words.specs.declared.fault.IdFault.TheVariants as id
+use Rattle.st_words.specs.declared.fault.SetupFault.{SetupFault}
+use Rattle.st_words.specs.declared.fault.SetupFault.TheVariants as setup
+use Rattle.st_refusals.specs.declared.fault.LineFault.{LineFault}
+use Rattle.st_refusals.specs.declared.fault.LineFault.TheVariants as line
+use Rattle.st_refusals.specs.declared.kernel_fault.KernelFault.{KernelFault}
+use Rattle.st_refusals.specs.declared.kernel_fault.KernelFault.TheVariants.{NoFile, FileFault, FileTooLong, KernelText, TooManyKernels, TooManyValues, OutOfMemory}
+
+-- the refusal of a line or a setup whose loading is refused
+abbrev pub line_fault : KernelFault → LineFault
+line_fault NoFile = line.NoFile
+line_fault FileFault = line.FileFault
+line_fault FileTooLong = line.FileTooLong
+line_fault (KernelText n cause) = line.KernelText n cause
+line_fault TooManyKernels = line.TooManyKernels
+line_fault TooManyValues = line.TooManyValues
+line_fault OutOfMemory = line.OutOfMemory
+
+-- the refusal of a file that is no kernel
+abbrev pub fault_of_text : TextFault → KernelFault
+fault_of_text (text.At line cause) = KernelText line cause
+fault_of_text text.OutOfMemory = OutOfMemory
+
+-- the refusal of a kernel that the pool doesn't take
+abbrev pub fault_of_pool : LoadFault → KernelFault
+fault_of_pool pool.TooManyKernels = TooManyKernels
+fault_of_pool pool.TooManyValues = TooManyValues
+fault_of_pool pool.OutOfMemory = OutOfMemory
+
+-- the refusal of a setup that names no files
+abbrev pub files_fault : SetupFault → LineFault
+files_fault (setup.WrongKind var) = line.WrongKind var
+files_fault setup.OutOfMemory = line.OutOfMemory
+
+-- the refusal of a setup that names no clock
+abbrev pub id_fault : IdFault → LineFault
+id_fault id.Missing = line.NoVariable SpacecraftId
+id_fault id.WrongKind = line.WrongKind SpacecraftId
+id_fault id.BadId = line.BadId
