@@ -1,8 +1,7 @@
 //! Batches from UTC to TAI with the setup `naif.tls`: the lines of the input, and their answers.
 
-use crate::rows::{Outside, SAFE_AND_SHORT, SHORT, batch, folder, run_batch, run_row};
-use st_batch::{LineFault, Status};
-use std::alloc::Global;
+use st_batch::Status;
+use st_trials::{SAFE_AND_SHORT, add_line, folder, put_clocks, run_batch, run_row, words};
 use std::test::Fail;
 
 /// What a row is about, the status, and each line with its answer.
@@ -168,13 +167,6 @@ fn sessions(rt: HostRuntime) -> Result<(), Fail> {
     Ok(())
 }
 
-/// Appends a text as a line.
-pub fn add_line(lines: &mut Vec<u8>, text: &str) -> Result<(), Fail> {
-    lines.extend_from_slice(text.as_bytes())?;
-    lines.push(b'\n')?;
-    Ok(())
-}
-
 /// What a row is about, the input, and the whole output.
 const ENDS_OF_LINES: [(&str, &str, &str); 2] = [
     (
@@ -201,212 +193,38 @@ fn ends_of_lines(rt: HostRuntime) -> Result<(), Fail> {
     Ok(())
 }
 
-/// A text, so many times.
-pub fn repeated(alloc: Global, text: &str, times: usize) -> Result<Vec<u8>, Fail> {
+#[test]
+fn a_thousand_clock_strings(rt: HostRuntime) -> Result<(), Fail> {
+    let alloc = rt.alloc();
+    let shape = [
+        "-setup",
+        "tdt.setup",
+        "-from",
+        "SCLK",
+        "-to",
+        "UTC",
+        "-batch",
+    ];
+    let words = words(alloc, shape.as_slice())?;
     let mut lines = Vec::new(alloc);
-    for _ in 0..times {
-        lines.extend_from_slice(text.as_bytes())?;
-    }
-    Ok(lines)
-}
-
-/// A line's first byte, how many bytes it has, and the output.
-const LONG_LINES: [(&str, usize, &str); 6] = [
-    ("x", 1000, "refused BAD_TIME\n"),
-    ("$", 1000, "refused BAD_COMMAND\n"),
-    (" ", 1000, "refused BAD_TIME\n"),
-    ("x", 1001, "refused LINE_TOO_LONG\n"),
-    ("$", 1001, "refused LINE_TOO_LONG\n"),
-    (" ", 1001, "refused LINE_TOO_LONG\n"),
-];
-
-#[test]
-fn lines_longer_than_a_line_may_be(rt: HostRuntime) -> Result<(), Fail> {
-    let alloc = rt.alloc();
-    for (first, count, wanted) in LONG_LINES {
-        let mut line = repeated(alloc, first, 1)?;
-        let rest = repeated(alloc, "x", count.saturating_sub(1))?;
-        line.extend_from_slice(rest.as_slice())?;
-        line.extend_from_slice(b"\r\n")?;
-        let (_, output) = run_batch(alloc, line.as_slice(), SHORT)?;
-        assert_eq!(rt; output.as_slice(), wanted.as_bytes(), "{first} {count}");
-    }
-    Ok(())
-}
-
-#[test]
-fn names_longer_than_a_name_may_be(rt: HostRuntime) -> Result<(), Fail> {
-    let alloc = rt.alloc();
-    for (count, wanted) in [(255, "refused NO_FILE\n"), (256, "refused BAD_COMMAND\n")] {
-        let mut line = repeated(alloc, "$load ", 1)?;
-        line.extend_from_slice(repeated(alloc, "n", count)?.as_slice())?;
-        let (_, output) = run_batch(alloc, line.as_slice(), SHORT)?;
-        assert_eq!(rt; output.as_slice(), wanted.as_bytes(), "{count}");
-    }
-    let mut line = repeated(alloc, "$load ", 1)?;
-    line.push(0xff)?;
-    let (_, output) = run_batch(alloc, line.as_slice(), SHORT)?;
-    assert_eq!(rt; output.as_slice(), b"refused BAD_COMMAND\n".as_slice());
-    Ok(())
-}
-
-#[test]
-fn a_thousand_kernels(rt: HostRuntime) -> Result<(), Fail> {
-    let alloc = rt.alloc();
-    let lines = repeated(alloc, "$load values.ker\n", 1001)?;
-    let mut wanted = repeated(alloc, "loaded\n", 999)?;
-    let refused = repeated(alloc, "refused TOO_MANY_KERNELS\n", 2)?;
-    wanted.extend_from_slice(refused.as_slice())?;
-    for outside in SAFE_AND_SHORT {
-        let (status, output) = run_batch(alloc, lines.as_slice(), outside)?;
-        assert_eq!(rt; status, Status::SomeRefused);
-        assert_eq!(rt; output.as_slice(), wanted.as_slice());
-    }
-    Ok(())
-}
-
-/// A kernel that gives a variable a million values, 400 to a line.
-pub fn million(alloc: Global) -> Result<Vec<u8>, Fail> {
-    let mut kernel = repeated(alloc, "\\begindata\nX = (\n", 1)?;
-    let mut line = repeated(alloc, "1 ", 400)?;
-    line.push(b'\n')?;
-    for _ in 0..2500 {
-        kernel.extend_from_slice(line.as_slice())?;
-    }
-    kernel.extend_from_slice(b")\n")?;
-    Ok(kernel)
-}
-
-#[test]
-fn two_million_values(rt: HostRuntime) -> Result<(), Fail> {
-    let alloc = rt.alloc();
-    let words = batch(alloc)?;
-    // Without the setup's values two million have room, and not one more.
-    let lines =
-        b"$unload naif.tls\n$load million.ker\n$load million.ker\n$load more.tls\n$load plain.ker\n";
-    let wanted = b"unloaded\nloaded\nloaded\nrefused TOO_MANY_VALUES\nloaded\n";
-    for outside in SAFE_AND_SHORT {
-        let mut map = folder(alloc)?;
-        map.put(b"million.ker", million(alloc)?)?;
-        let (status, output) = run_row(alloc, words.as_slice(), map, lines, outside)?;
-        assert_eq!(rt; status, Status::SomeRefused);
-        assert_eq!(rt; output.as_slice(), wanted.as_slice());
-    }
-    Ok(())
-}
-
-#[test]
-fn a_file_that_is_too_long(rt: HostRuntime) -> Result<(), Fail> {
-    let alloc = rt.alloc();
-    let words = batch(alloc)?;
-    // Its one line is too long as well, which its length comes before.
-    let lines = b"$load long.ker\n2017-06-01T00:00:00\n";
-    let wanted = b"refused FILE_TOO_LONG\n549547237.000000\n";
-    for outside in SAFE_AND_SHORT {
-        let mut map = folder(alloc)?;
-        map.put(b"long.ker", vec![in alloc; b' '; 16_777_217]?)?;
-        let (status, output) = run_row(alloc, words.as_slice(), map, lines, outside)?;
-        assert_eq!(rt; status, Status::SomeRefused);
-        assert_eq!(rt; output.as_slice(), wanted.as_slice());
-    }
-    Ok(())
-}
-
-#[test]
-fn lines_cut_by_the_reads(rt: HostRuntime) -> Result<(), Fail> {
-    let alloc = rt.alloc();
-    // 84,000 bytes, of which a read gives at most 65,536.
-    let lines = repeated(alloc, "2017-06-01T00:00:00\r\n", 4000)?;
-    let wanted = repeated(alloc, "549547237.000000\n", 4000)?;
-    let (status, output) = run_batch(alloc, lines.as_slice(), SHORT)?;
-    assert_eq!(rt; status, Status::Done);
-    assert_eq!(rt; output.as_slice(), wanted.as_slice());
-    Ok(())
-}
-
-/// A kernel that is loaded for the second line.
-const TWO_LINES: &[u8] = b"$load short.tls\n2017-06-01T00:00:00";
-
-/// The status and the output of the two lines, where one call of the files fails.
-fn with_failing_file(
-    alloc: Global,
-    call: u32,
-    outside: Outside,
-) -> Result<(Status, Vec<u8>), Fail> {
-    let failing = Outside {
-        files: call,
-        ..outside
-    };
-    run_batch(alloc, TWO_LINES, failing)
-}
-
-#[test]
-fn faulty_loads(rt: HostRuntime) -> Result<(), Fail> {
-    let alloc = rt.alloc();
-    for outside in SAFE_AND_SHORT {
-        // The first calls are those of the setup. The first one that `$load` makes opens its file, and the next one reads.
-        let mut opening = 0;
-        for call in 1..4000 {
-            let (status, _) = with_failing_file(alloc, call, outside)?;
-            if status == Status::SomeRefused {
-                opening = call;
-                break;
+    let mut wanted = Vec::new(alloc);
+    for minute in 0..17u32 {
+        for second in 0..60u32 {
+            let count = minute * 60 + second;
+            if count < 1000 {
+                let tick = 86400 + count;
+                lines.extend_from_slice(format!(in alloc; "1/{tick}.0\n")?.as_bytes())?;
+                let label = format!(in alloc; "2017-01-02T00:{minute:02}:{second:02}.000\n")?;
+                wanted.extend_from_slice(label.as_bytes())?;
             }
-            assert_eq!(rt; status, Status::BadSetup(LineFault::FileFault), "{call}");
-        }
-        for failing in [opening, opening.saturating_add(1)] {
-            let (status, output) = with_failing_file(alloc, failing, outside)?;
-            assert_eq!(rt; status, Status::SomeRefused, "{failing}");
-            assert_eq!(rt;
-                output.as_slice(),
-                b"refused FILE_FAULT\n549547237.000000\n".as_slice(),
-                "{failing}"
-            );
         }
     }
-    Ok(())
-}
-
-/// A kernel that is loaded for some time. The last line isn't ended, so its answer is written by itself.
-const FIVE_LINES: &[u8] =
-    b"2017-06-01T00:00:00\n$load short.tls\n2017-06-01T00:00:00\n$unload short.tls\n2017-06-01T00:00:00";
-
-/// The answers to the first four of these lines.
-const FOUR_ANSWERS: &str = "549547237.000000\nloaded\n549547236.000000\nunloaded\n";
-
-/// How the five lines end where a call of the input or of the output fails: the call of each, the status, and what was
-/// written.
-const FAULTS: [(u32, u32, Status, &str); 5] = [
-    (
-        0,
-        0,
-        Status::Done,
-        "549547237.000000\nloaded\n549547236.000000\nunloaded\n549547237.000000\n",
-    ),
-    (1, 0, Status::ReadFault, ""),
-    (2, 0, Status::ReadFault, FOUR_ANSWERS),
-    (0, 1, Status::WriteFault, ""),
-    (0, 2, Status::WriteFault, FOUR_ANSWERS),
-];
-
-#[test]
-fn faults_of_the_outside(rt: HostRuntime) -> Result<(), Fail> {
-    let alloc = rt.alloc();
-    for (read_call, write_call, wanted, written) in FAULTS {
-        for outside in SAFE_AND_SHORT {
-            let failing = Outside {
-                input: read_call,
-                output: write_call,
-                ..outside
-            };
-            let (status, output) = run_batch(alloc, FIVE_LINES, failing)?;
-            assert_eq!(rt; status, wanted, "{read_call} {write_call}");
-            assert_eq!(rt;
-                output.as_slice(),
-                written.as_bytes(),
-                "{read_call} {write_call}"
-            );
-        }
+    for outside in SAFE_AND_SHORT {
+        let mut map = folder(alloc)?;
+        put_clocks(alloc, &mut map)?;
+        let (status, output) = run_row(alloc, words.as_slice(), map, lines.as_slice(), outside)?;
+        assert_eq!(rt; status, Status::Done);
+        assert_eq!(rt; output.as_slice(), wanted.as_slice());
     }
     Ok(())
 }

@@ -1,7 +1,7 @@
 //! Conversions from UTC to TAI with `naif.tls`.
 
-use crate::rows::{SAFE_AND_SHORT, files, run_row, to_tai};
 use st_batch::Status;
+use st_trials::{SAFE_AND_SHORT, files, run_row, to_tai};
 use std::test::Fail;
 
 /// A time, and the whole output for it.

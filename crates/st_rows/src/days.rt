@@ -1,8 +1,7 @@
 //! The two worked days of `docs/USING.md`, as they are printed there.
 
-use crate::clocks::put_clocks;
-use crate::rows::{SAFE_AND_SHORT, files, run_row, words};
 use st_batch::Status;
+use st_trials::{SAFE_AND_SHORT, add_word, files, put_clocks, run_row, words};
 use std::alloc::Global;
 use std::process::Abort;
 use std::test::Fail;
@@ -128,7 +127,7 @@ fn run_day(rt: &impl Abort, alloc: Global, day: &[Step]) -> Result<(), Fail> {
     for (asked, input, output, wanted) in day {
         let mut all = words(alloc, &["-setup", "mission.setup"])?;
         for word in *asked {
-            crate::rows::add_word(alloc, &mut all, word)?;
+            add_word(alloc, &mut all, word)?;
         }
         for outside in SAFE_AND_SHORT {
             let mut map = files(alloc)?;

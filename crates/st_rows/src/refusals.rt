@@ -1,10 +1,9 @@
-//! Refused words, setups and times, and faults of the outside.
+//! Refused words, setups and times.
 
-use crate::clocks::put_clocks;
-use crate::rows::{Outside, SAFE, SAFE_AND_SHORT, SHORT, files, run_row, to_tai, words};
 use st_batch::{LineFault, Status};
-use st_outside::FileMap;
+use st_outside::{FileMap, OutOfMemory};
 use st_ticks::Var;
+use st_trials::{Outside, SAFE, SAFE_AND_SHORT, SHORT, files, put_clocks, run_row, to_tai, words};
 use std::test::Fail;
 
 /// A time, and the refusal.
@@ -77,7 +76,11 @@ const NO_TABLES: [(&str, &str); 11] = [
 ];
 
 /// How a conversion of noon on 2000-01-01 ends with a setup file of these bytes, and what it writes.
-fn with_setup(rt: &HostRuntime, setup: &[u8], outside: Outside) -> Result<(Status, Vec<u8>), Fail> {
+fn with_setup(
+    rt: &HostRuntime,
+    setup: &[u8],
+    outside: Outside,
+) -> Result<(Status, Vec<u8>), OutOfMemory> {
     let alloc = rt.alloc();
     let words = to_tai(alloc, "2000-01-01T12:00:00")?;
     let mut map = FileMap::new(alloc);
@@ -274,53 +277,6 @@ fn setups_without_a_clock(rt: HostRuntime) -> Result<(), Fail> {
             output.as_slice(),
             b"bad setup NO_VARIABLE SPACECRAFT_ID\n".as_slice()
         );
-    }
-    Ok(())
-}
-
-/// A call of the files that fails, a call of the output that fails, the status, and the whole output.
-const FAULTS: [(u32, u32, Status, &str); 5] = [
-    (0, 0, Status::Done, "32.000000\n"),
-    (
-        1,
-        0,
-        Status::BadSetup(LineFault::FileFault),
-        "bad setup FILE_FAULT\n",
-    ),
-    (
-        2,
-        0,
-        Status::BadSetup(LineFault::FileFault),
-        "bad setup FILE_FAULT\n",
-    ),
-    (
-        3,
-        0,
-        Status::BadSetup(LineFault::FileFault),
-        "bad setup FILE_FAULT\n",
-    ),
-    (0, 1, Status::WriteFault, ""),
-];
-
-#[test]
-fn faults_outside(rt: HostRuntime) -> Result<(), Fail> {
-    let alloc = rt.alloc();
-    let words = to_tai(alloc, "2000-01-01T12:00:00")?;
-    for (of_files, of_output, wanted, written) in FAULTS {
-        for outside in SAFE_AND_SHORT {
-            let failing = Outside {
-                files: of_files,
-                output: of_output,
-                ..outside
-            };
-            let (status, output) = run_row(alloc, words.as_slice(), files(alloc)?, b"", failing)?;
-            assert_eq!(rt; status, wanted, "{of_files} {of_output}");
-            assert_eq!(rt;
-                output.as_slice(),
-                written.as_bytes(),
-                "{of_files} {of_output}"
-            );
-        }
     }
     Ok(())
 }

@@ -1,8 +1,7 @@
 //! Samples: the words, the status, and the line that is written. No input is read: its first read would fail.
 
-use crate::clocks::put_clocks;
-use crate::rows::{Outside, SAFE_AND_SHORT, folder, run_row, words};
 use st_batch::Status;
+use st_trials::{Outside, SAFE_AND_SHORT, folder, put_clocks, run_row, words};
 use std::test::Fail;
 
 /// The first read of the input would fail.

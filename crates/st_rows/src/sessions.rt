@@ -1,13 +1,12 @@
 //! A session by its own calls: its kernels, its answers, and the texts of refusals.
 
-use crate::batches::million;
-use crate::rows::{folder, words};
 use st_batch::{Answer, LineFault, Session, put_refusal};
 use st_decimal::Dec;
 use st_kernel_text::{TextCause, Value};
 use st_outside::{Files, MemFiles, SafeFiles};
 use st_pool::Kind;
 use st_ticks::Var;
+use st_trials::{folder, million, words};
 use st_words::read_words;
 use std::alloc::Global;
 use std::test::Fail;

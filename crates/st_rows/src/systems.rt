@@ -1,8 +1,7 @@
 //! Conversions between all systems: the words behind `-setup`, and the whole output.
 
-use crate::clocks::put_clocks;
-use crate::rows::{SAFE_AND_SHORT, add_word, folder, run_row};
 use st_batch::Status;
+use st_trials::{SAFE_AND_SHORT, add_word, folder, put_clocks, run_row};
 use std::alloc::Global;
 use std::process::Abort;
 use std::test::Fail;

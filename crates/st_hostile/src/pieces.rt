@@ -1,10 +1,6 @@
-//! Kernels in whatever pieces they come: what `$load` answers, and a long batch of clock strings.
+//! Kernels in whatever pieces they come: what `$load` answers.
 
-use crate::batches::repeated;
-use crate::clocks::put_clocks;
-use crate::files::NAIF;
-use crate::rows::{SAFE, SAFE_AND_SHORT, batch, files, folder, in_pieces, run_row, words};
-use st_batch::Status;
+use st_trials::{NAIF, SAFE, batch, files, in_pieces, repeated, run_row};
 use std::alloc::Global;
 use std::process::Abort;
 use std::test::Fail;
@@ -64,20 +60,20 @@ const CUTS: [(&[u8], &str); 4] = [
     (b"@1972-JU", "refused KERNEL_TEXT 9 BAD_DATE"),
 ];
 
-/// `naif.tls`, cut off behind the first place where it has this text.
-fn cut_behind(text: &[u8]) -> &[u8] {
-    for start in 0..NAIF.len() {
-        if let Some(rest) = NAIF[start..].strip_prefix(text) {
-            return NAIF.strip_suffix(rest).unwrap_or(NAIF);
+/// A kernel, cut off behind the first place where it has this text.
+fn cut_behind<'a>(kernel: &'a [u8], text: &[u8]) -> &'a [u8] {
+    for start in 0..kernel.len() {
+        if let Some(rest) = kernel[start..].strip_prefix(text) {
+            return kernel.strip_suffix(rest).unwrap_or(kernel);
         }
     }
-    NAIF
+    kernel
 }
 
 #[test]
 fn cuts(rt: HostRuntime) -> Result<(), Fail> {
     for (text, wanted) in CUTS {
-        answers(&rt, rt.alloc(), cut_behind(text), wanted)?;
+        answers(&rt, rt.alloc(), cut_behind(NAIF, text), wanted)?;
     }
     Ok(())
 }
@@ -145,42 +141,6 @@ fn a_file_as_long_as_a_file_may_be(rt: HostRuntime) -> Result<(), Fail> {
         map.put(b"it.ker", vec![in alloc; byte; 16_777_216]?)?;
         let (_, output) = run_row(alloc, words.as_slice(), map, b"$load it.ker", SAFE)?;
         assert_eq!(rt; output.as_slice(), wanted.as_bytes(), "{byte}");
-    }
-    Ok(())
-}
-
-#[test]
-fn a_thousand_clock_strings(rt: HostRuntime) -> Result<(), Fail> {
-    let alloc = rt.alloc();
-    let shape = [
-        "-setup",
-        "tdt.setup",
-        "-from",
-        "SCLK",
-        "-to",
-        "UTC",
-        "-batch",
-    ];
-    let words = words(alloc, shape.as_slice())?;
-    let mut lines = Vec::new(alloc);
-    let mut wanted = Vec::new(alloc);
-    for minute in 0..17u32 {
-        for second in 0..60u32 {
-            let count = minute * 60 + second;
-            if count < 1000 {
-                let tick = 86400 + count;
-                lines.extend_from_slice(format!(in alloc; "1/{tick}.0\n")?.as_bytes())?;
-                let label = format!(in alloc; "2017-01-02T00:{minute:02}:{second:02}.000\n")?;
-                wanted.extend_from_slice(label.as_bytes())?;
-            }
-        }
-    }
-    for outside in SAFE_AND_SHORT {
-        let mut map = folder(alloc)?;
-        put_clocks(alloc, &mut map)?;
-        let (status, output) = run_row(alloc, words.as_slice(), map, lines.as_slice(), outside)?;
-        assert_eq!(rt; status, Status::Done);
-        assert_eq!(rt; output.as_slice(), wanted.as_slice());
     }
     Ok(())
 }

@@ -1,12 +1,9 @@
 //! A row: the words, the files and the input of a run, and how it ends.
 
-use crate::files::{
-    CUT, LEAP, MINUS, MIXED, MORE, NAIF, NO_K, PLAIN, SAME, VALUES, WRONG, ZERO, naif_with, short,
-};
+use crate::files::{files, folder};
 use st_batch::{Status, run};
-use st_outside::{FileMap, MemFiles, MemSink, MemSource};
+use st_outside::{FileMap, MemFiles, MemSink, MemSource, OutOfMemory};
 use std::alloc::Global;
-use std::test::Fail;
 
 /// How the outside behaves: the calls of the files, of the input and of the output that fail, counted from 1, where 0
 /// says that none does; how many bytes a read of a file gives at most; and how many a read of the input gives, and a
@@ -57,7 +54,7 @@ pub fn run_row(
     files: FileMap,
     input: &[u8],
     outside: Outside,
-) -> Result<(Status, Vec<u8>), Fail> {
+) -> Result<(Status, Vec<u8>), OutOfMemory> {
     let failing_files = Vec::from_slice(alloc, &[outside.files])?;
     let mut files = MemFiles::short(files, failing_files, outside.most.max(1));
     let most = outside.streams.max(1);
@@ -70,13 +67,17 @@ pub fn run_row(
 }
 
 /// How a batch of these lines ends over the folder of the worked rows, and what it writes.
-pub fn run_batch(alloc: Global, lines: &[u8], outside: Outside) -> Result<(Status, Vec<u8>), Fail> {
+pub fn run_batch(
+    alloc: Global,
+    lines: &[u8],
+    outside: Outside,
+) -> Result<(Status, Vec<u8>), OutOfMemory> {
     let words = batch(alloc)?;
     run_row(alloc, words.as_slice(), folder(alloc)?, lines, outside)
 }
 
 /// Words as the program takes them.
-pub fn words(alloc: Global, texts: &[&str]) -> Result<Vec<String>, Fail> {
+pub fn words(alloc: Global, texts: &[&str]) -> Result<Vec<String>, OutOfMemory> {
     let mut words = Vec::new(alloc);
     for text in texts {
         add_word(alloc, &mut words, text)?;
@@ -85,13 +86,13 @@ pub fn words(alloc: Global, texts: &[&str]) -> Result<Vec<String>, Fail> {
 }
 
 /// Appends a word.
-pub fn add_word(alloc: Global, words: &mut Vec<String>, text: &str) -> Result<(), Fail> {
+pub fn add_word(alloc: Global, words: &mut Vec<String>, text: &str) -> Result<(), OutOfMemory> {
     words.push(String::from_str(alloc, text)?)?;
     Ok(())
 }
 
 /// The words of a conversion from UTC to TAI with the setup `naif.tls`.
-pub fn to_tai(alloc: Global, time: &str) -> Result<Vec<String>, Fail> {
+pub fn to_tai(alloc: Global, time: &str) -> Result<Vec<String>, OutOfMemory> {
     words(
         alloc,
         &[
@@ -101,40 +102,9 @@ pub fn to_tai(alloc: Global, time: &str) -> Result<Vec<String>, Fail> {
 }
 
 /// The words of a batch from UTC to TAI with the setup `naif.tls`.
-pub fn batch(alloc: Global) -> Result<Vec<String>, Fail> {
+pub fn batch(alloc: Global) -> Result<Vec<String>, OutOfMemory> {
     words(
         alloc,
         &["-setup", "naif.tls", "-from", "UTC", "-to", "TAI", "-batch"],
     )
-}
-
-/// A folder that holds the files of the worked rows.
-pub fn folder(alloc: Global) -> Result<FileMap, Fail> {
-    let mut map = files(alloc)?;
-    map.put(b"short.tls", short(alloc)?)?;
-    map.put(b"empty.ker", Vec::new(alloc))?;
-    map.put(b"zero.tls", naif_with(alloc, ZERO)?)?;
-    map.put(b"nok.tls", naif_with(alloc, NO_K)?)?;
-    let others: [(&[u8], &[u8]); 9] = [
-        (b"more.tls", MORE),
-        (b"values.ker", VALUES),
-        (b"mixed.ker", MIXED),
-        (b"cut.ker", CUT),
-        (b"plain.ker", PLAIN),
-        (b"wrong.ker", WRONG),
-        (b"minus.tls", MINUS),
-        (b"leap.tls", LEAP),
-        (b"same.tls", SAME),
-    ];
-    for (name, bytes) in others {
-        map.put(name, Vec::from_slice(alloc, bytes)?)?;
-    }
-    Ok(map)
-}
-
-/// A folder that holds `naif.tls`.
-pub fn files(alloc: Global) -> Result<FileMap, Fail> {
-    let mut map = FileMap::new(alloc);
-    map.put(b"naif.tls", Vec::from_slice(alloc, NAIF)?)?;
-    Ok(map)
 }

@@ -2,9 +2,8 @@
 
 ghost use Rattle.std.specs.Prelude.{◌+◌, ◌<◌, ◌≤◌, ◌^◌, length};
 
-use crate::batches::repeated;
-use crate::files::NAIF;
 use st_kernel_text::{AssignmentList, KernelReader, TextFault, read_kernel};
+use st_trials::{NAIF, repeated};
 use std::alloc::Global;
 use std::process::Abort;
 use std::test::Fail;
@@ -39,12 +38,17 @@ fn read(rt: &impl Abort, alloc: Global, kernel: &[u8]) -> Result<String, Fail> {
     Ok(whole)
 }
 
-#[test]
-fn cuts_at_every_length(rt: HostRuntime) -> Result<(), Fail> {
-    for end in 0..=NAIF.len() {
-        read(&rt, rt.alloc(), &NAIF[..end])?;
+/// Reads each beginning of a kernel.
+fn read_beginnings(rt: &impl Abort, alloc: Global, kernel: &[u8]) -> Result<(), Fail> {
+    for end in 0..=kernel.len() {
+        read(rt, alloc, &kernel[..end])?;
     }
     Ok(())
+}
+
+#[test]
+fn cuts_at_every_length(rt: HostRuntime) -> Result<(), Fail> {
+    read_beginnings(&rt, rt.alloc(), NAIF)
 }
 
 /// A kernel in which each byte is changed to every other.

@@ -1,8 +1,7 @@
 //! The spacecraft clock kernels of the worked rows, each with a setup file that names it, and `naif.tls`.
 
-use st_outside::FileMap;
+use st_outside::{FileMap, OutOfMemory};
 use std::alloc::Global;
-use std::test::Fail;
 
 /// A setup file's name, its clock kernel's name, and what that kernel says behind the clock's id and type.
 const CLOCKS: [(&str, &str, &str); 7] = [
@@ -96,7 +95,7 @@ const CLOCKS: [(&str, &str, &str); 7] = [
 ];
 
 /// Puts each clock kernel and its setup file into a folder, and a setup file that names no spacecraft.
-pub fn put_clocks(alloc: Global, map: &mut FileMap) -> Result<(), Fail> {
+pub fn put_clocks(alloc: Global, map: &mut FileMap) -> Result<(), OutOfMemory> {
     for (setup, kernel, clock) in CLOCKS {
         let mut text = naming(alloc, kernel)?;
         text.extend_from_slice(b"SPACECRAFT_ID = -82\n")?;
@@ -113,7 +112,7 @@ pub fn put_clocks(alloc: Global, map: &mut FileMap) -> Result<(), Fail> {
 }
 
 /// The lines that name `naif.tls` and a clock kernel.
-fn naming(alloc: Global, kernel: &str) -> Result<Vec<u8>, Fail> {
+fn naming(alloc: Global, kernel: &str) -> Result<Vec<u8>, OutOfMemory> {
     let mut text = Vec::from_slice(
         alloc,
         b"\\begindata\nLEAPSECONDS_FILE = 'naif.tls'\nSCLK_FILE = '",

@@ -1,8 +1,7 @@
 //! Faults of the outside, one call at a time, whatever pieces it gives and takes.
 
-use crate::batches::add_line;
-use crate::rows::{Outside, in_pieces, run_batch};
 use st_batch::{LineFault, Status};
+use st_trials::{Outside, add_line, in_pieces, run_batch};
 use std::alloc::Global;
 use std::test::Fail;
 

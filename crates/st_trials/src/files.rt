@@ -1,7 +1,7 @@
 //! The files of the worked rows.
 
+use st_outside::{FileMap, OutOfMemory};
 use std::alloc::Global;
-use std::test::Fail;
 
 /// `naif.tls`: a leapseconds kernel with the usual values.
 pub const NAIF: &[u8] = b"\
@@ -46,7 +46,7 @@ pub const NAIF: &[u8] = b"\
 const LAST_PAIR: &[u8] = b"\n                     37, @2017-JAN-1 )\n\\begintext\n";
 
 /// `short.tls`: `naif.tls` without the pair of 37.
-pub fn short(alloc: Global) -> Result<Vec<u8>, Fail> {
+fn short(alloc: Global) -> Result<Vec<u8>, OutOfMemory> {
     let front = NAIF.strip_suffix(LAST_PAIR).unwrap_or(NAIF);
     let mut file = Vec::from_slice(alloc, front)?;
     file.extend_from_slice(b" )\n\\begintext\n")?;
@@ -54,41 +54,72 @@ pub fn short(alloc: Global) -> Result<Vec<u8>, Fail> {
 }
 
 /// `values.ker`: a string, and two numbers.
-pub const VALUES: &[u8] = b"\\begindata\nX = 'it''s'\nY = -1.5D+2\nZ += @1972-JAN-1\n";
+const VALUES: &[u8] = b"\\begindata\nX = 'it''s'\nY = -1.5D+2\nZ += @1972-JAN-1\n";
 
 /// `more.tls`: one more pair.
-pub const MORE: &[u8] = b"\\begindata\nDELTET/DELTA_AT += ( 38, @2030-JAN-1 )\n";
+const MORE: &[u8] = b"\\begindata\nDELTET/DELTA_AT += ( 38, @2030-JAN-1 )\n";
 
 /// `mixed.ker`: a list of both kinds.
-pub const MIXED: &[u8] = b"\\begindata\nX = ( 1, 'a' )\n";
+const MIXED: &[u8] = b"\\begindata\nX = ( 1, 'a' )\n";
 
 /// `cut.ker`: a list that does not end.
-pub const CUT: &[u8] = b"\\begindata\nX = ( 1,\n";
+const CUT: &[u8] = b"\\begindata\nX = ( 1,\n";
 
 /// `plain.ker`: a file of commentary alone.
-pub const PLAIN: &[u8] = b"KPL/LSK\nNothing here.\n";
+const PLAIN: &[u8] = b"KPL/LSK\nNothing here.\n";
 
 /// `wrong.ker`: a table that is a text.
-pub const WRONG: &[u8] = b"\\begindata\nDELTET/DELTA_AT = 'ten'\n";
+const WRONG: &[u8] = b"\\begindata\nDELTET/DELTA_AT = 'ten'\n";
 
 /// `minus.tls`: one more pair, by which a second is removed.
-pub const MINUS: &[u8] = b"\\begindata\nDELTET/DELTA_AT += ( 36, @2030-JAN-1 )\n";
+const MINUS: &[u8] = b"\\begindata\nDELTET/DELTA_AT += ( 36, @2030-JAN-1 )\n";
 
 /// `same.tls`: one more pair, by which no second would be inserted.
-pub const SAME: &[u8] = b"\\begindata\nDELTET/DELTA_AT += ( 37, @2030-JAN-1 )\n";
+const SAME: &[u8] = b"\\begindata\nDELTET/DELTA_AT += ( 37, @2030-JAN-1 )\n";
 
 /// `leap.tls`: one more pair, by which two seconds would be inserted.
-pub const LEAP: &[u8] = b"\\begindata\nDELTET/DELTA_AT += ( 39, @2030-JAN-1 )\n";
+const LEAP: &[u8] = b"\\begindata\nDELTET/DELTA_AT += ( 39, @2030-JAN-1 )\n";
 
 /// `zero.tls` is `naif.tls` with an orbit that is a circle, on which nothing moves.
-pub const ZERO: &[u8] = b"\\begindata\nDELTET/EB = 0\nDELTET/M = ( 0 0 )\n";
+const ZERO: &[u8] = b"\\begindata\nDELTET/EB = 0\nDELTET/M = ( 0 0 )\n";
 
 /// `nok.tls` is `naif.tls` by which TDB is TT.
-pub const NO_K: &[u8] = b"\\begindata\nDELTET/K = 0\n";
+const NO_K: &[u8] = b"\\begindata\nDELTET/K = 0\n";
 
 /// `naif.tls`, and behind it what is given anew.
-pub fn naif_with(alloc: Global, anew: &[u8]) -> Result<Vec<u8>, Fail> {
+fn naif_with(alloc: Global, anew: &[u8]) -> Result<Vec<u8>, OutOfMemory> {
     let mut file = Vec::from_slice(alloc, NAIF)?;
     file.extend_from_slice(anew)?;
     Ok(file)
+}
+
+/// A folder that holds the files of the worked rows.
+pub fn folder(alloc: Global) -> Result<FileMap, OutOfMemory> {
+    let mut map = files(alloc)?;
+    map.put(b"short.tls", short(alloc)?)?;
+    map.put(b"empty.ker", Vec::new(alloc))?;
+    map.put(b"zero.tls", naif_with(alloc, ZERO)?)?;
+    map.put(b"nok.tls", naif_with(alloc, NO_K)?)?;
+    let others: [(&[u8], &[u8]); 9] = [
+        (b"more.tls", MORE),
+        (b"values.ker", VALUES),
+        (b"mixed.ker", MIXED),
+        (b"cut.ker", CUT),
+        (b"plain.ker", PLAIN),
+        (b"wrong.ker", WRONG),
+        (b"minus.tls", MINUS),
+        (b"leap.tls", LEAP),
+        (b"same.tls", SAME),
+    ];
+    for (name, bytes) in others {
+        map.put(name, Vec::from_slice(alloc, bytes)?)?;
+    }
+    Ok(map)
+}
+
+/// A folder that holds `naif.tls`.
+pub fn files(alloc: Global) -> Result<FileMap, OutOfMemory> {
+    let mut map = FileMap::new(alloc);
+    map.put(b"naif.tls", Vec::from_slice(alloc, NAIF)?)?;
+    Ok(map)
 }
