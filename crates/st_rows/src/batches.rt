@@ -1,11 +1,15 @@
-//! Batches from UTC to TAI with the setup `naif.tls`: the lines of the input, and their answers.
+//! Batches, mostly from UTC to TAI with the setup `naif.tls`: the lines of the input, and their answers.
 
 use st_batch::Status;
-use st_trials::{SAFE_AND_SHORT, add_line, folder, put_clocks, run_batch, run_row, words};
+use st_trials::{
+    SAFE_AND_SHORT, add_line, add_word, folder, put_clocks, run_batch, run_row, words,
+};
+use std::alloc::Global;
+use std::process::Abort;
 use std::test::Fail;
 
 /// What a row is about, the status, and each line with its answer.
-const SESSIONS: [(&str, Status, &[(&str, &str)]); 12] = [
+const SESSIONS: [(&str, Status, &[(&str, &str)]); 13] = [
     ("no lines", Status::Done, &[]),
     (
         "a leapseconds kernel for some time",
@@ -131,6 +135,16 @@ const SESSIONS: [(&str, Status, &[(&str, &str)]); 12] = [
         ],
     ),
     (
+        "a table of another kind, and no other",
+        Status::SomeRefused,
+        &[
+            ("$clear", "cleared"),
+            ("2017-06-01T00:00:00", "refused NO_VARIABLE DELTET/DELTA_AT"),
+            ("$load wrong.ker", "loaded"),
+            ("2017-06-01T00:00:00", "refused WRONG_KIND DELTET/DELTA_AT"),
+        ],
+    ),
+    (
         "a second that is removed, and two that can't be inserted",
         Status::SomeRefused,
         &[
@@ -165,6 +179,46 @@ fn sessions(rt: HostRuntime) -> Result<(), Fail> {
         }
     }
     Ok(())
+}
+
+/// A batch from TAI to UTC: the words behind these, the input, and the whole output.
+type FromTai = (&'static [&'static str], &'static str, &'static str);
+
+/// Around a second that is removed, which isn't printed, and into which nothing is rounded.
+const REMOVED: [FromTai; 2] = [
+    (
+        &[],
+        "$load minus.tls\n946728035.5\n946728036\n",
+        "loaded\n2029-12-31T23:59:58.500\n2030-01-01T00:00:00.000\n",
+    ),
+    (
+        &["-format", "YYYY-MM-DDTHR:MN:SC::RND"],
+        "$load minus.tls\n946728035.5\n",
+        "loaded\n2030-01-01T00:00:00\n",
+    ),
+];
+
+/// Runs batches from TAI to UTC in which nothing is refused.
+fn run_from_tai(rt: &impl Abort, alloc: Global, batches: &[FromTai]) -> Result<(), Fail> {
+    for (asked, lines, wanted) in batches {
+        let mut all = words(alloc, &["-setup", "naif.tls", "-from", "TAI", "-to", "UTC"])?;
+        for word in *asked {
+            add_word(alloc, &mut all, word)?;
+        }
+        add_word(alloc, &mut all, "-batch")?;
+        for outside in SAFE_AND_SHORT {
+            let map = folder(alloc)?;
+            let (status, output) = run_row(alloc, all.as_slice(), map, lines.as_bytes(), outside)?;
+            assert_eq!(rt; status, Status::Done);
+            assert_eq!(rt; output.as_slice(), wanted.as_bytes());
+        }
+    }
+    Ok(())
+}
+
+#[test]
+fn a_removed_second_is_not_printed(rt: HostRuntime) -> Result<(), Fail> {
+    run_from_tai(&rt, rt.alloc(), REMOVED.as_slice())
 }
 
 /// What a row is about, the input, and the whole output.

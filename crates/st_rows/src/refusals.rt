@@ -269,6 +269,7 @@ fn setups_without_a_clock(rt: HostRuntime) -> Result<(), Fail> {
         let mut map = files(alloc)?;
         put_clocks(alloc, &mut map)?;
         let (status, output) = run_row(alloc, words.as_slice(), map, b"", outside)?;
+        assert_eq!(rt; status.code(), 3);
         assert_eq!(rt;
             status,
             Status::BadSetup(LineFault::NoVariable(Var::SpacecraftId))
@@ -284,10 +285,14 @@ fn setups_without_a_clock(rt: HostRuntime) -> Result<(), Fail> {
 #[test]
 fn setups_that_are_absent_or_too_long(rt: HostRuntime) -> Result<(), Fail> {
     let alloc = rt.alloc();
-    let words = to_tai(alloc, "2000-01-01T12:00:00")?;
-    let (status, output) = run_row(alloc, words.as_slice(), FileMap::new(alloc), b"", SAFE)?;
-    assert_eq!(rt; status, Status::BadSetup(LineFault::NoFile));
-    assert_eq!(rt; output.as_slice(), b"bad setup NO_FILE\n".as_slice());
+    let shape = ["-setup", "none", "-from", "UTC", "-to", "TAI", "-batch"];
+    let words = words(alloc, shape.as_slice())?;
+    for outside in SAFE_AND_SHORT {
+        let (status, output) = run_row(alloc, words.as_slice(), files(alloc)?, b"", outside)?;
+        assert_eq!(rt; status.code(), 3);
+        assert_eq!(rt; status, Status::BadSetup(LineFault::NoFile));
+        assert_eq!(rt; output.as_slice(), b"bad setup NO_FILE\n".as_slice());
+    }
 
     let long = vec![in alloc; b' '; 16_777_217]?;
     for outside in SAFE_AND_SHORT {

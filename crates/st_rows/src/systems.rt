@@ -10,7 +10,7 @@ use std::test::Fail;
 type Row<'a> = (&'a [&'a str], &'a str, &'a str);
 
 /// Between the scales: truncation downwards, the choice of the digits, and the times that stand near a digit's edge.
-const SCALES: [Row; 20] = [
+const SCALES: [Row; 21] = [
     (
         &["naif.tls", "-from", "UTC", "-to", "ET"],
         "2000-01-01T12:00:00",
@@ -136,6 +136,11 @@ const SCALES: [Row; 20] = [
         &["naif.tls", "-from", "UTC", "-to", "TAI"],
         "2016-12-31T23:59:60.5",
         "536500836.500000",
+    ),
+    (
+        &["made.tls", "-from", "UTC", "-to", "TAI"],
+        "1972-06-30T23:59:60",
+        "-867931190.000000",
     ),
     (
         &["naif.tls", "-from", "TAI", "-to", "UTC"],

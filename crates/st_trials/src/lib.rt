@@ -5,12 +5,12 @@
 #![tactic(auto)]
 
 mod clocks;
-mod files;
+mod folders;
 mod lines;
 mod rows;
 
 pub use crate::clocks::put_clocks;
-pub use crate::files::{NAIF, files, folder};
+pub use crate::folders::{NAIF, files, folder};
 pub use crate::lines::{add_line, million, repeated};
 pub use crate::rows::{
     Outside, SAFE, SAFE_AND_SHORT, SHORT, add_word, batch, in_pieces, run_batch, run_row, to_tai,

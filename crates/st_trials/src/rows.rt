@@ -1,6 +1,6 @@
 //! A row: the words, the files and the input of a run, and how it ends.
 
-use crate::files::{files, folder};
+use crate::folders::{files, folder};
 use st_batch::{Status, run};
 use st_outside::{FileMap, MemFiles, MemSink, MemSource, OutOfMemory};
 use std::alloc::Global;

@@ -1,4 +1,4 @@
-//! The files of the worked rows.
+//! The files of the worked rows, and the folders that hold them.
 
 use st_outside::{FileMap, OutOfMemory};
 use std::alloc::Global;
@@ -65,11 +65,25 @@ const MIXED: &[u8] = b"\\begindata\nX = ( 1, 'a' )\n";
 /// `cut.ker`: a list that does not end.
 const CUT: &[u8] = b"\\begindata\nX = ( 1,\n";
 
-/// `plain.ker`: a file of commentary alone.
-const PLAIN: &[u8] = b"KPL/LSK\nNothing here.\n";
+/// `plain.ker`: a file of commentary alone, with what data may not have.
+const PLAIN: &[u8] = b"a kernel\nwithout data: X = ( \x80\n";
 
 /// `wrong.ker`: a table that is a text.
 const WRONG: &[u8] = b"\\begindata\nDELTET/DELTA_AT = 'ten'\n";
+
+/// `made.tls`: a leapseconds kernel of two pairs, each on a line.
+const MADE: &[u8] = b"\
+    KPL/LSK\n\
+    \\begindata\n\
+    DELTET/DELTA_T_A = 32.184\n\
+    DELTET/K = 1.657D-3\n\
+    DELTET/EB = 1.671D-2\n\
+    DELTET/M = ( 6.239996D0 1.99096871D-7 )\n\
+    DELTET/DELTA_AT = (\n\
+    10, @1972-01-01\n\
+    11, @1972-07-01\n\
+    )\n\
+    \\begintext\n";
 
 /// `minus.tls`: one more pair, by which a second is removed.
 const MINUS: &[u8] = b"\\begindata\nDELTET/DELTA_AT += ( 36, @2030-JAN-1 )\n";
@@ -100,13 +114,14 @@ pub fn folder(alloc: Global) -> Result<FileMap, OutOfMemory> {
     map.put(b"empty.ker", Vec::new(alloc))?;
     map.put(b"zero.tls", naif_with(alloc, ZERO)?)?;
     map.put(b"nok.tls", naif_with(alloc, NO_K)?)?;
-    let others: [(&[u8], &[u8]); 9] = [
+    let others: [(&[u8], &[u8]); 10] = [
         (b"more.tls", MORE),
         (b"values.ker", VALUES),
         (b"mixed.ker", MIXED),
         (b"cut.ker", CUT),
         (b"plain.ker", PLAIN),
         (b"wrong.ker", WRONG),
+        (b"made.tls", MADE),
         (b"minus.tls", MINUS),
         (b"leap.tls", LEAP),
         (b"same.tls", SAME),
