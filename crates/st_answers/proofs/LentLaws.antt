@@ -1,5 +1,5 @@
 -- Tables that are found, as what the job asks for; and tables that are lent.
-use Rattle.std.proofs.Common.{◌≡◌, ◌≢◌, ℕ, Bool, true, false, Option, Some, None, IsSome, IfSome, IfErr, OnOk, option_map, Result, Ok, Err, inl, inr, refl, sym, ap, ◌∙◌, subst}
+use Rattle.std.proofs.Common.{◌≡◌, ℕ, Bool, true, false, Option, Some, None, IsSome, IfSome, IfErr, OnOk, Result, Ok, Err, List, inl, inr, refl, sym, ap, ◌∙◌, subst}
 use Rattle.std.proofs.lemmas.Bool.{false≢true}
 use Rattle.std.specs.Prelude.{⊤}
 use Rattle.std.specs.Result.{IsErrAnd}
@@ -12,8 +12,9 @@ use Rattle.st_tables.specs.Tables.{ClockGives, ConstantsGive, LeapsGive}
 use Rattle.st_tables.specs.Variables.{Loaded}
 use Rattle.st_tables.specs.declared.fault.TableFault.{TableFault}
 use Rattle.st_words.specs.declared.job.Job.{Job}
+use Rattle.st_answers.specs.Answer.{AnswerBy, AnswerGives, BackGives, ForwardGives, back_job, there_and_back}
 use Rattle.st_answers.specs.Asked.{ClockOf, ConstantsOf, FirstRefusal, GivesWhere, LeapsOf, Tables, AreTables, in_pairs}
-use Rattle.st_answers.specs.AskedSteps.{FindsClock, FindsConstants, FindsLeaps, HasAsked, HasClockFor, HasFound, IsLater}
+use Rattle.st_answers.specs.AskedSteps.{FindsClock, FindsConstants, FindsLeaps, HasAsked, HasFound, IsLater}
 use Rattle.st_answers.specs.Ready.{IsReady}
 use Rattle.st_answers.specs.Sides.{has_clock, has_utc, needs_constants}
 use Rattle.st_answers.proofs.Sides.{has-table}
@@ -160,3 +161,18 @@ pub clock-refuses : (job : Job) (before loaded later : Loaded) (r : Result ⊤ T
 clock-refuses job before loaded later (Ok done) same last leaps constants gives = tt
 clock-refuses job before loaded later (Err fault) same last (leaps, are) (constants, too) gives =
     inr (inr (leaps, constants, are, subst (λ (l : Loaded). ConstantsOf job l (Ok constants)) same too, subst (λ (l : Loaded). ClockOf job l (Err fault)) last gives))
+
+-- the way back by the kernels that the way there left as they were loaded
+pub there-and-back : (job : Job) (loaded after : Loaded) (text there back source first second said : List ℕ) → job.back ≡ true → after ≡ loaded
+    → source ≡ there → first ≡ there → second ≡ back
+    → ForwardGives job loaded text (Ok there) → ForwardGives (back_job job) after source (Ok back) → said ≡ there_and_back first second
+    → AnswerGives job loaded text (Ok said)
+there-and-back job loaded after text there back source first second said is same a b d one two e =
+    let P : List ℕ → Loaded → Type 0 = λ t l. ForwardGives (back_job job) l t (Ok back) in
+    let way : P there loaded = subst (λ (l : Loaded). P there l) same (subst (λ (t : List ℕ). P t after) a two) in
+    let joined : said ≡ there_and_back there back = e ∙ ap (λ (t : List ℕ). there_and_back t second) b ∙ ap (λ (t : List ℕ). there_and_back there t) d in
+    by job.back is (there, back, one, way, joined)
+  where
+    by : (b : Bool) → b ≡ true → BackGives job loaded text (Ok said) → AnswerBy b job loaded text (Ok said)
+    by true e h = h
+    by false e h = absurd (false≢true e)

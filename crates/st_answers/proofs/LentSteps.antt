@@ -1,20 +1,16 @@
 -- What a text is answered by the tables that are lent.
-use Rattle.std.proofs.Common.{◌≡◌, ◌≢◌, ℕ, ◌<◌, ℤ, Bool, true, false, ◌&&◌, Option, Some, None, option_map, Result, Ok, Err, IfOk, IfErr, List, inl, inr, refl, sym, ap, ◌∙◌, subst}
+use Rattle.std.proofs.Common.{◌≡◌, ◌≢◌, ℕ, Bool, true, false, Option, Some, None, Result, Ok, Err, IfOk, IfErr, List, inl, refl, sym, ap, ◌∙◌, subst}
 use Rattle.std.specs.Result.{IsErrAnd}
 use Rattle.st_clock.specs.Clock.{Clock}
-use Rattle.st_clock.specs.Time.{value_of}
 use Rattle.st_clock.specs.declared.point.Point.{Point}
-use Rattle.st_fraction.specs.Fraction.{units}
-use Rattle.st_routes.specs.Outcome.{IsTickText, RouteGives, by_clock}
 use Rattle.st_routes.specs.Source.{TickGives, TimeGives}
 use Rattle.st_routes.specs.declared.fault.TimeFault.{TimeFault}
 use Rattle.st_routes.specs.declared.fault.TimeFault.TheVariants as time
-use Rattle.st_routes.specs.declared.route.Route.{Route}
 use Rattle.st_routes.specs.declared.ticks.TickForm.{TickForm}
 use Rattle.st_words.specs.declared.job.Job.{Job}
-use Rattle.st_answers.specs.Answer.{ConvertGives, GivesBy, SpellGives, source_form, target_form}
+use Rattle.st_answers.specs.Answer.{ConvertGives, GivesBy, SpellGives}
 use Rattle.st_answers.specs.Asked.{Tables}
-use Rattle.st_answers.specs.AskedSteps.{ClockPrintIs, ClockScaleIs, ClockTimeIs, SourceIs}
+use Rattle.st_answers.specs.AskedSteps.{ClockScaleIs, ClockTimeIs, SourceIs}
 use Rattle.st_scales.specs.declared.scale.Scale.{Scale}
 use Rattle.st_answers.proofs.Found.{some-is}
 

@@ -1,29 +1,24 @@
 -- What a point is printed as by the target of a job.
-use Rattle.std.proofs.Common.{◌≡◌, ℕ, ◌<◌, Bool, true, false, ◌&&◌, Bor, Option, Some, None, option_map, Result, Ok, Err, List, refl, sym, ◌∙◌, subst}
+use Rattle.std.proofs.Common.{◌≡◌, ℕ, ◌<◌, Bool, true, false, ◌&&◌, Result, List, refl, sym, ◌∙◌, subst}
 use Rattle.std.proofs.lemmas.Bool.{false≢true}
 use Rattle.st_clock.specs.Time.{value_of}
 use Rattle.st_clock.specs.declared.point.Point.{Point}
 use Rattle.st_fraction.proofs.Order.{same_sym}
 use Rattle.st_fraction.specs.Fraction.{Fraction}
-use Rattle.st_leaps.specs.OfTable.{pairs_of}
-use Rattle.st_leaps.specs.declared.table.LeapTable.{LeapTable}
 use Rattle.st_picture.specs.Picture.{Picture}
 use Rattle.st_routes.specs.Outcome.{RouteGives, by_clock, by_picture}
 use Rattle.st_routes.specs.declared.fault.TimeFault.{TimeFault}
 use Rattle.st_routes.specs.declared.route.Route.{Route}
 use Rattle.st_routes.specs.declared.ticks.TickForm.TheVariants as tick
-use Rattle.st_tables.specs.Variables.{Loaded}
 use Rattle.st_words.specs.declared.job.Job.{Job}
 use Rattle.st_words.specs.declared.job.ToKind.{ToKind}
 use Rattle.st_words.specs.declared.job.ToKind.TheVariants as to
 use Rattle.st_words.specs.Job.{IsTarget}
 use Rattle.st_answers.specs.Answer.{IsTargetOf}
-use Rattle.st_answers.specs.Asked.{AreTables, Tables}
+use Rattle.st_answers.specs.Asked.{Tables}
 use Rattle.st_answers.specs.AskedSteps.{ClockPrintIs, PrintIs}
 use Rattle.st_answers.specs.Sides.{is_clock}
-use Rattle.st_answers.specs.declared.fault.AnswerFault.{AnswerFault}
-use Rattle.st_answers.specs.declared.fault.AnswerFault.TheVariants.{Table, Time, OutOfMemory}
-use Rattle.st_answers.proofs.Moved.{point-is, same-printed, same-source}
+use Rattle.st_answers.proofs.Moved.{point-is, same-source}
 use Rattle.st_answers.proofs.Sides.{target-clock, target-ticks}
 
 pub picture-printed : (job : Job) (route : Route) (time : Point) (picture : Picture) (x : Result (List ℕ) TimeFault) (tables : Tables)

@@ -1,5 +1,5 @@
 -- What a text of the source stands for, and the answer one way.
-use Rattle.std.proofs.Common.{◌≡◌, ◌≢◌, ℕ, ◌<◌, ℤ, inr, Bool, true, ◌&&◌, Result, Ok, Err, IfOk, IfErr, List, refl, sym, ap, ◌∙◌, subst}
+use Rattle.std.proofs.Common.{◌≡◌, ◌≢◌, ℕ, ◌<◌, ℤ, inr, true, ◌&&◌, Result, Ok, Err, IfOk, IfErr, List, refl, sym, ap, ◌∙◌, subst}
 use Rattle.std.proofs.lemmas.Bool.{false≢true}
 use Rattle.std.specs.Result.{IsErrAnd}
 use Rattle.st_clock.specs.Time.{value_of}

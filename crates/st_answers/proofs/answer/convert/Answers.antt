@@ -9,5 +9,5 @@ returns-in_err-time c =
 
 pub returns : goal.returns
 returns c =
-    converted c.args.job.now (shown c.args.tables.now) c.args.text.now c.in_ok-time.time c.route_of.result.now c.print.result c.in_ok-time.ensures.gives
-    c.route_of.ensures c.print.ensures
+    converted c.args.job.now (shown c.args.tables.now) c.args.text.now c.in_ok-time.time c.route_of-route.result c.print.result c.in_ok-time.ensures.gives
+    c.route_of-route.ensures c.print.ensures

@@ -1,4 +1,4 @@
-use Rattle.std.proofs.Common.{ℕ, false, List, Ok, Err, IfOk, IfErr, ◌≢◌, subst}
+use Rattle.std.proofs.Common.{ℕ, false, List, Ok, IfOk, subst}
 use Rattle.std.proofs.lemmas.Bool.{false≢true}
 use Rattle.st_dates.specs.declared.system.System.TheVariants.{Tdb, Sclk}
 use Rattle.st_forms.specs.declared.form.Form.TheVariants.{Seconds}
@@ -25,5 +25,5 @@ returns-clause-ok c =
       clock = c.args.job.now.clock;
       work = Batch;
       back = false;
-    }) c.args.kernels.old.loaded c.args.text.now (Ok said)) in
+    }) c.args.kernels.now.loaded c.args.text.now (Ok said)) in
     subst P c.new.ensures c.forward.ensures.ok

@@ -10,4 +10,4 @@ returns-then-has_clock c =
     clock-lent c.args.job.now c.args.kernels.now c.clock.result.now c.requires.ready c.requires.found (sym c.has_clock.ensures ∙ c.if-has_clock.true) c.clock.ensures
 
 pub returns-else-has_clock : goal.returns-else-has_clock
-returns-else-has_clock c = clock-unlent c.args.job.now _ (sym c.has_clock.ensures ∙ c.if-has_clock.false)
+returns-else-has_clock c = clock-unlent c.args.job.now c.args.kernels.now.loaded (sym c.has_clock.ensures ∙ c.if-has_clock.false)

@@ -7,7 +7,7 @@ deltet-requires c = c.requires.constants (sym c.needs_constants.ensures ∙ c.if
 
 pub returns-then-needs_constants : goal.returns-then-needs_constants
 returns-then-needs_constants c =
-    constants-lent c.args.job.now _ c.deltet.result.now (sym c.needs_constants.ensures ∙ c.if-needs_constants.true) c.deltet.ensures
+    constants-lent c.args.job.now c.args.kernels.now.loaded c.deltet.result.now (sym c.needs_constants.ensures ∙ c.if-needs_constants.true) c.deltet.ensures
 
 pub returns-else-needs_constants : goal.returns-else-needs_constants
-returns-else-needs_constants c = constants-unlent c.args.job.now _ (sym c.needs_constants.ensures ∙ c.if-needs_constants.false)
+returns-else-needs_constants c = constants-unlent c.args.job.now c.args.kernels.now.loaded (sym c.needs_constants.ensures ∙ c.if-needs_constants.false)

@@ -1,4 +1,4 @@
-use Rattle.std.proofs.Common.{Ok, Err, option_map, refl, ap, subst}
+use Rattle.std.proofs.Common.{Ok, option_map, ap, subst}
 use Rattle.st_routes.specs.Source.{TickGives}
 use Rattle.st_routes.specs.Outcome.{IsTickText}
 use Rattle.st_routes.specs.declared.ticks.TickForm.{TickForm}
