@@ -3,7 +3,7 @@ use Rattle.std.specs.Prelude.{◌≡◌, ℕ, ◌<◌, Bool, true, false, if◌t
 use Rattle.std.specs.Io.KnownBytes.{Appends, Consumes, IsAtEnd}
 use Rattle.std.specs.List.{flat_map, list_any}
 use Rattle.st_outside.specs.States.{FilesState, InputState}
-use Rattle.st_text.specs.Lines.{lines_of}
+use Rattle.st_text.specs.Lines.{HasNoFeed, lines_of}
 use Rattle.st_batch.specs.declared.answer.Answer.{Answer}
 use Rattle.st_batch.specs.declared.answer.Answer.TheVariants.{Text, Refused}
 use Rattle.st_refusals.specs.declared.fault.LineFault.{LineFault}

@@ -12,7 +12,7 @@ use Rattle.st_refusals.specs.declared.fault.LineFault.{LineFault}
 use Rattle.st_refusals.specs.declared.fault.LineFault.TheVariants.{WrongKind}
 use Rattle.st_refusals.specs.declared.kernel_fault.KernelFault.{KernelFault}
 use Rattle.st_batch.specs.Load.{LoadGives}
-use Rattle.st_refusals.specs.Faults.{line_fault}
+use Rattle.st_refusals.specs.Faults.{id_fault, line_fault}
 use Rattle.st_batch.specs.Setting.{Loaded, Setting, State}
 use Rattle.st_answers.specs.Sides.{has_clock}
 
