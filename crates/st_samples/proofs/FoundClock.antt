@@ -1,5 +1,5 @@
 -- The clock that is found for a line.
-use Rattle.std.proofs.Common.{◌≡◌, ℕ, Option, Some, Result, Ok, Err, IsSome, IfSome, refl, sym, ap, subst}
+use Rattle.std.proofs.Common.{◌≡◌, ℕ, Result, Ok, Err, IsSome, IfSome, refl, sym, ap, subst}
 use Rattle.std.specs.Prelude.{⊤}
 use Rattle.st_clock.specs.Clock.{Clock}
 use Rattle.st_tables.specs.Kernels.{Kernels, Find, found_clock}

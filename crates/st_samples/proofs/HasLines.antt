@@ -1,5 +1,5 @@
 -- Each number makes a line.
-use Rattle.std.proofs.Common.{◌≡◌, ◌≢◌, ℕ, zero, suc, ◌+◌, ◌*◌, ◌/◌, ◌%◌, ◌^◌, ◌<◌, ◌≤◌, Bool, true, Some, Result, Ok, Err, List, [], ◌∷◌, codes, length, refl, sym, ap, ◌∙◌, subst, arith, lit<, ℤ, pos, neg_ℤ, ◌+ℤ◌, ◌≤ℤ◌}
+use Rattle.std.proofs.Common.{◌≡◌, ◌≢◌, ℕ, zero, suc, ◌+◌, ◌*◌, ◌/◌, ◌%◌, ◌^◌, ◌<◌, true, Some, Result, Ok, Err, List, [], ◌∷◌, codes, length, refl, sym, ap, ◌∙◌, arith, lit<, ℤ, pos, ◌+ℤ◌, ◌≤ℤ◌}
 use Rattle.std.specs.Prelude.{unsigned_abs}
 use Rattle.std.proofs.lemmas.Int.{ints, int_rem_euclid_is}
 use Rattle.st_clock.specs.Clock.{Clock as TheClock, total}
@@ -19,13 +19,12 @@ use Rattle.st_words.specs.declared.job.FromKind.{FromKind}
 use Rattle.st_words.specs.declared.job.FromKind.TheVariants as from
 use Rattle.st_words.specs.declared.job.Job.{Job}
 use Rattle.st_answers.specs.Ready.{IsReady}
-use Rattle.st_answers.specs.Sides.{is_clock}
 use Rattle.st_answers.proofs.Sides.{is_of_clock, source-kind}
 use Rattle.st_answers.proofs.Timed.{tick-text-found}
 use Rattle.st_samples.specs.Generator.{milliseconds, seconds, tick, x_of}
 use Rattle.st_samples.specs.JobLine.{AreLinesFrom, IsClockLine, IsLineBy, IsTickLine}
 use Rattle.st_samples.specs.Laws.{EachSampleHasLines, IsClockTold}
-use Rattle.st_samples.specs.SampleLine.{IsLabelLine, count_of, label_text, seconds_text}
+use Rattle.st_samples.specs.SampleLine.{IsLabelLine, label_text, seconds_text}
 use Rattle.st_samples.proofs.JobLaws.{is-clock}
 
 -- a day from 2000 on has a date

@@ -6,7 +6,7 @@ use Rattle.std.proofs.lemmas.Grind.{common_steps}
 use Rattle.std.proofs.lemmas.Int.{ints}
 use Rattle.std.proofs.lemmas.List.{length-replicate, length-map}
 use Rattle.st_text.specs.Bytes.{are_digits, decimal_digits, is_blank, padded}
-use Rattle.st_text.specs.Lines.{skip_blanks, without_end_blanks, trimmed}
+use Rattle.st_text.specs.Lines.{trimmed}
 use Rattle.st_text.proofs.Logic.{and-left}
 use Rattle.st_text.proofs.Spelled.{are_digits-padded}
 use Rattle.st_clock.specs.Clock.{Clock as TheClock, IsClock, total}

@@ -1,10 +1,10 @@
 -- The summary of all answers is made one answer after the other, and a sum modulo 2^32 byte by byte.
-use Rattle.std.proofs.Common.{◌≡◌, ℕ, ◌+◌, ◌%◌, ◌^◌, ◌<◌, List, [], ◌∷◌, ◌++◌, length, take, get_or, cond, ap, sym, ◌∙◌, arith, length-append}
+use Rattle.std.proofs.Common.{◌≡◌, ℕ, ◌+◌, ◌%◌, ◌^◌, ◌<◌, List, [], ◌∷◌, ◌++◌, length, take, get_or, cond, ap, ◌∙◌, arith, length-append}
 use Rattle.std.proofs.lemmas.List.{take_more}
 use Rattle.std.proofs.lemmas.List.Sums.{sum_by_push}
 use Rattle.std.specs.List.{sum, sum_by}
 use Rattle.st_samples.specs.Laws.{SummaryGrows}
-use Rattle.st_samples.specs.Summary.{AnswerLine, text, refusal, is_text, is_refusal, bytes_sum, Summary, summary_of, with_answer}
+use Rattle.st_samples.specs.Summary.{AnswerLine, text, refusal, is_text, is_refusal, bytes_sum, Summary, summary_of}
 
 same : (a b : Summary) → a.lines ≡ b.lines → a.texts ≡ b.texts → a.refused ≡ b.refused → a.bytes ≡ b.bytes → a ≡ b
 same a b l t r s =
