@@ -1,5 +1,5 @@
 -- How the answering of the lines of a text comes along.
-use Rattle.std.proofs.Common.{◌≡◌, ℕ, ◌<◌, Option, List, [], ◌∷◌, ◌++◌, length, refl, sym, ◌∙◌, ap, subst, append_assoc, Result, Ok, Err, OnErr}
+use Rattle.std.proofs.Common.{◌≡◌, ℕ, ◌<◌, Option, List, [], ◌∷◌, ◌++◌, length, refl, sym, ◌∙◌, ap, subst, append_assoc, Result, Ok, Err, OnErr, arith}
 use Rattle.st_text.specs.Lines.{HasNoFeed, lines_of, without_cr}
 use Rattle.st_text.proofs.LineLaws as text
 use Rattle.st_batch.specs.declared.answering.Answering.{Answering}

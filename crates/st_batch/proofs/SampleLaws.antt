@@ -229,3 +229,21 @@ summed-ends s counts loaded seed n summary before after status h d =
     let P : Summary → Type 0 = λ t. Delivers (summary_text t ++ (10 ∷ [])) (status_for summary) before after status in
     let Q : Status → Type 0 = λ t. Delivers (summary_line h.answers) t before after status in
     inl (h.answers, h.sampled, subst Q (status-is h.answers summary h.summed) (subst P h.summed d))
+
+-- no status of answered lines is a fault of the input, or its length
+goes-on : (refused : Bool) → ((cond refused SomeRefused Done) ≢ ReadFault) × ((cond refused SomeRefused Done) ≢ InputTooLong)
+goes-on true = ((λ e. cc), (λ e. cc))
+goes-on false = ((λ e. cc), (λ e. cc))
+
+cut-goes-on : (status : Status) → IsCut status → (status ≢ ReadFault) × (status ≢ InputTooLong)
+cut-goes-on status cut = ((λ e. subst IsCut e cut), (λ e. subst IsCut e cut))
+
+same-goes-on : (a b : Status) → a ≡ b → (b ≢ ReadFault) × (b ≢ InputTooLong) → (a ≢ ReadFault) × (a ≢ InputTooLong)
+same-goes-on a b e h = subst (λ (t : Status). (t ≢ ReadFault) × (t ≢ InputTooLong)) (sym e) h
+
+-- the input stops no sample
+pub sample-goes-on : (old : FilesState) (a : State) (lines seed : ℕ) (taken after : Option (List ℕ)) (status : Status)
+    → SampleEnds (record { files = old.map; job = a.job }) old.counts a.loaded seed lines taken after status → (status ≢ ReadFault) × (status ≢ InputTooLong)
+sample-goes-on old a lines seed taken after status (inl (answers, s, inl (appends, ended))) = same-goes-on status _ ended (goes-on (list_any is_refused answers))
+sample-goes-on old a lines seed taken after status (inl (answers, s, inr (front, cut))) = cut-goes-on status cut
+sample-goes-on old a lines seed taken after status (inr (memory, same)) = cut-goes-on status (subst IsCut (sym memory) tt)

@@ -1,6 +1,6 @@
 use Rattle.st_words.specs.declared.job.Work.TheVariants.{Time, Sample}
 use Rattle.st_batch.proofs.InputLaws.{as-lines, none-answered, session-told, time-ends, work-is}
-use Rattle.st_batch.proofs.SampleLaws.{sample-told}
+use Rattle.st_batch.proofs.SampleLaws.{sample-goes-on, sample-told}
 use Rattle.st_batch.proofs.input.answer_lines.Goals as goal
 
 pub returns-in-Err-clause-told : goal.returns-in-Err-clause-told
@@ -37,3 +37,13 @@ returns-clause-told g c = λ before k.
     c.new-answering.ensures.session c.answer_sample.ensures.files
     (work-is c.args.session c.job.result.now c.in-Ok.work (Sample c.in-Sample.lines c.in-Sample.seed) c.job.ensures c.in-Ok.ensures c.in-Sample.is) k
     c.answer_sample.ensures.ends
+
+pub returns-clause-read_fault : goal.returns-clause-read_fault
+returns-clause-read_fault g c = λ e.
+    absurd ((sample-goes-on (g.F.Files.state c.args.files.now) c.new-answering.result.session c.in-Sample.lines c.in-Sample.seed
+    (g.O.Sink.bytes c.args.out.now) (g.O.Sink.bytes c.answer_sample.new.out) c.answer_sample.result c.answer_sample.ensures.ends).0 e)
+
+pub returns-clause-too_long : goal.returns-clause-too_long
+returns-clause-too_long g c = λ e.
+    absurd ((sample-goes-on (g.F.Files.state c.args.files.now) c.new-answering.result.session c.in-Sample.lines c.in-Sample.seed
+    (g.O.Sink.bytes c.args.out.now) (g.O.Sink.bytes c.answer_sample.new.out) c.answer_sample.result c.answer_sample.ensures.ends).1 e)
