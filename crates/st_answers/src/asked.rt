@@ -63,7 +63,7 @@ fn share_scale(from: System, to: System) -> bool
 ///
 /// # Errors
 ///
-/// The first refusal of a table.
+/// The first refusal of a table, or want of memory.
 pub fn find_tables(job: &Job, kernels: &mut Kernels) -> Result<(), TableFault>
     requires { IsReady job.now }
     ensures found { OnOk result (HasFound job.now kernels.new) }

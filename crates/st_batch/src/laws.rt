@@ -75,7 +75,7 @@ pub fn one_decided_output()
 
 /// Where the files and the input tell their bytes and the files had no fault there is at most one whole output, so that
 /// `run`, where it isn't cut off, is then a function of the words, the files and the input: where no sine stands on the
-/// job's way by each loaded list that answers to some first lines lead to.
+/// job's way by each loaded list by which a time among the lines is answered.
 pub fn one_output()
     ensures { OneOutput }
 {}

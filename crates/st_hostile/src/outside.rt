@@ -56,7 +56,7 @@ fn answers_after_a_fault(alloc: Global) -> Result<Vec<u8>, Fail> {
 }
 
 /// How many bytes a call of the files gives at most, and how many calls pass before the forty of which each fails in
-/// turn: the first ones are those of the setup, and with small pieces the later ones those about the loading's first.
+/// turn. The first forty are the setup's; where pieces are small, a second row begins about where the loading does.
 const CALLS: [(usize, u32); 5] = [(1, 0), (1, 1200), (7, 0), (7, 160), (4096, 0)];
 
 #[test]

@@ -2,7 +2,7 @@
 
 ghost use Rattle.st_outside.specs.Laws.{CountsStay, FilesAreKept, FilesStay};
 
-/// How calls on files follow one another: what none or each of them keeps all keep.
+/// How calls on files follow one another: what nothing touched is kept, and what each of two calls keeps both keep.
 pub fn files_are_kept()
     ensures counts { CountsStay }
     ensures none { FilesStay }

@@ -34,7 +34,7 @@ fault_of_pool pool.TooManyKernels = TooManyKernels
 fault_of_pool pool.TooManyValues = TooManyValues
 fault_of_pool pool.OutOfMemory = OutOfMemory
 
--- the refusal of a setup that names no files
+-- the refusal of a setup whose variables of files are not of texts
 abbrev pub files_fault : SetupFault → LineFault
 files_fault (setup.WrongKind var) = line.WrongKind var
 files_fault setup.OutOfMemory = line.OutOfMemory

@@ -84,10 +84,10 @@ pub enum LineFault {
     /// The time or the tick is before the clock's first record.
     #[error("before the clock")]
     BeforeClock,
-    /// The time is behind the clock's last partition.
+    /// The tick nearest to the time is behind the clock's last partition.
     #[error("after the clock")]
     AfterClock,
-    /// Two times around the exact one, at most 10^-12 s apart, print differently.
+    /// Two bounds of the exact value, at most 10^-12 s apart, have different cells or ticks.
     #[error("undecided")]
     Undecided,
     /// Memory was refused. No line is refused so: a run then ends as one that wanted memory.

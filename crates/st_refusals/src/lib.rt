@@ -1,7 +1,7 @@
 //! Why a setup or a line is refused, and the text of each refusal.
 //!
-//! A [`LineFault`] is one cause, made of the fault of the crate that found it; [`KernelFault`] is that of a loading.
-//! [`put_refusal`] appends its text. Nothing of the session, which refuses, is here.
+//! A [`LineFault`] is one cause: made here of the fault of a loading or of a setup, and by `st_batch` of that of a table
+//! or a time; [`KernelFault`] is that of a loading. [`put_refusal`] appends its text. Nothing of the session, which refuses, is here.
 #![tactic(auto)]
 
 mod fault;

@@ -146,6 +146,7 @@ fn put_deltet(out: &mut Vec<u8>, fault: DeltetFault) -> Result<(), OutOfMemory>
     }
 }
 
+/// Appends a rule and the constant that breaks it.
 fn put_constant(out: &mut Vec<u8>, rule: &[u8], var: DeltetVar) -> Result<(), OutOfMemory>
     ensures { OnOk result (out.new.items ≡ out.old.items ++ ((32 ∷ rule.now) ++ (32 ∷ texts.constant_text var))) }
 {

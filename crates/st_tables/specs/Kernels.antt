@@ -22,7 +22,7 @@ pub record Kernels : Type 0 where
 abbrev pub found_none : Loaded → Kept → Kernels
 found_none loaded kept = record { loaded = loaded; kept = kept; leaps = false; constants = false; clock = None }
 
--- the same, with one more table found
+-- the same kernels, with a table kept and found; a clock in the place of another one
 abbrev pub found_leaps : Kernels → Kernels
 found_leaps k = record { loaded = k.loaded; kept = with_leaps k.loaded k.kept; leaps = true; constants = k.constants; clock = k.clock }
 

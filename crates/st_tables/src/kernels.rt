@@ -19,8 +19,9 @@ use st_scales::Deltet;
 use std::alloc::Global;
 use std::marker::Model;
 
-/// The loaded kernels with the tables that they gave. A table that was found stays found until a kernel is loaded or unloaded:
-/// finding it again compares nothing. After that a kept table is compared with the loaded kernels once.
+/// The loaded kernels with the tables that they gave. A table that was found stays found until a kernel is loaded or
+/// unloaded, a clock also until another one is found: finding it again compares nothing. After that a kept table is
+/// compared with the loaded kernels once.
 #[derive(Debug, Drop)]
 pub struct Kernels {
     pool: Pool,
@@ -40,7 +41,7 @@ struct Found {
 impl Found {
     ghost use Rattle.std.specs.Prelude.{None, Some, IsTrue};
 
-    /// None is known to be.
+    /// No kept table is known to be that of the loaded kernels.
     fn none() -> Found
         ensures { result ≡ record { leaps = false; constants = false; clock = None } }
     {
@@ -51,7 +52,7 @@ impl Found {
         }
     }
 
-    /// Whether the clock of the id -n is.
+    /// Whether the kept clock is known to be that of the id -n by the loaded kernels.
     fn has_clock(&self, n: u32) -> bool
         ensures { IsTrue result ↔ (self.now.clock ≡ Some n) }
     {

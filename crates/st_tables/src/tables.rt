@@ -149,7 +149,7 @@ impl Tables {
     }
 
     /// The kept table of leap seconds.
-    pub fn kept_leaps(&self) -> &LeapTable
+    pub(crate) fn kept_leaps(&self) -> &LeapTable
         requires { IsSome self.now.leaps }
         ensures { IfSome self.now.leaps (λ numbers. LeapsMade (list_at numbers 0) (Ok (pairs_of result.now))) }
     {
@@ -160,7 +160,7 @@ impl Tables {
     }
 
     /// The kept constants.
-    pub fn kept_constants(&self) -> &Deltet
+    pub(crate) fn kept_constants(&self) -> &Deltet
         requires { IsSome self.now.constants }
         ensures { IfSome self.now.constants (λ numbers.
             ConstantsMade (list_at numbers 0) (list_at numbers 1) (list_at numbers 2) (list_at numbers 3) (Ok result.now)) }
@@ -172,7 +172,7 @@ impl Tables {
     }
 
     /// The kept clock.
-    pub fn kept_clock(&self) -> &Clock
+    pub(crate) fn kept_clock(&self) -> &Clock
         requires { IsSome self.now.clock }
         ensures { IfSome self.now.clock (λ kept. ClockMade (clock_numbers kept.1) (Ok result.now)) }
     {

@@ -3,7 +3,7 @@
 use st_outside::{FileMap, OutOfMemory};
 use std::alloc::Global;
 
-/// A setup file's name, its clock kernel's name, and what that kernel says behind the clock's id and type.
+/// A setup file's name, its clock kernel's name, and what that kernel says behind the clock's data type.
 const CLOCKS: [(&str, &str, &str); 7] = [
     // A count of seconds and of parts of 256.
     (
@@ -27,7 +27,7 @@ const CLOCKS: [(&str, &str, &str); 7] = [
          SCLK01_MODULI_82        = ( 16777215 91 10 8 )\n\
          SCLK01_OFFSETS_82       = ( 0 0 0 0 )\n\
          SCLK01_OUTPUT_DELIM_82  = ( 2 )\n\
-         SCLK_PARTITION_START_82 = ( 0 )\n\
+         SCLK_PARTITION_START_82 = ( 0.0000000000000E+00 )\n\
          SCLK_PARTITION_END_82   = ( 122138125199 )\n\
          SCLK01_COEFFICIENTS_82  = ( 0 0 60.666 )\n",
     ),
@@ -35,23 +35,25 @@ const CLOCKS: [(&str, &str, &str); 7] = [
     (
         "vgr.setup",
         "vgr.tsc",
-        "SCLK01_N_FIELDS_82      = ( 3 )\n\
+        "SCLK01_TIME_SYSTEM_82   = ( 1 )\n\
+         SCLK01_N_FIELDS_82      = ( 3 )\n\
          SCLK01_MODULI_82        = ( 65536 60 800 )\n\
          SCLK01_OFFSETS_82       = ( 0 0 1 )\n\
          SCLK01_OUTPUT_DELIM_82  = ( 2 )\n\
-         SCLK_PARTITION_START_82 = ( 0 )\n\
+         SCLK_PARTITION_START_82 = ( 0.0000000000000E+00 )\n\
          SCLK_PARTITION_END_82   = ( 3145727999 )\n\
-         SCLK01_COEFFICIENTS_82  = ( 0 0 1 )\n",
+         SCLK01_COEFFICIENTS_82  = ( 0.0E+00 0.0E+00 1.0E+00 )\n",
     ),
     // Two records, between which the clock stands still for ten seconds.
     (
         "cap.setup",
         "cap.tsc",
-        "SCLK01_N_FIELDS_82      = ( 2 )\n\
+        "SCLK01_TIME_SYSTEM_82   = ( 1 )\n\
+         SCLK01_N_FIELDS_82      = ( 2 )\n\
          SCLK01_MODULI_82        = ( 4294967296 256 )\n\
          SCLK01_OFFSETS_82       = ( 0 0 )\n\
          SCLK01_OUTPUT_DELIM_82  = ( 1 )\n\
-         SCLK_PARTITION_START_82 = ( 0 )\n\
+         SCLK_PARTITION_START_82 = ( 0.0000000000000E+00 )\n\
          SCLK_PARTITION_END_82   = ( 1.0995116277750E+12 )\n\
          SCLK01_COEFFICIENTS_82  = ( 0 0 1 25600 110 1 )\n",
     ),
@@ -59,11 +61,12 @@ const CLOCKS: [(&str, &str, &str); 7] = [
     (
         "gap.setup",
         "gap.tsc",
-        "SCLK01_N_FIELDS_82      = ( 2 )\n\
+        "SCLK01_TIME_SYSTEM_82   = ( 1 )\n\
+         SCLK01_N_FIELDS_82      = ( 2 )\n\
          SCLK01_MODULI_82        = ( 4294967296 256 )\n\
          SCLK01_OFFSETS_82       = ( 0 0 )\n\
          SCLK01_OUTPUT_DELIM_82  = ( 1 )\n\
-         SCLK_PARTITION_START_82 = ( 0 )\n\
+         SCLK_PARTITION_START_82 = ( 0.0000000000000E+00 )\n\
          SCLK_PARTITION_END_82   = ( 1.0995116277750E+12 )\n\
          SCLK01_COEFFICIENTS_82  = ( 0 0 1 25600 90 1 )\n",
     ),
@@ -71,13 +74,14 @@ const CLOCKS: [(&str, &str, &str); 7] = [
     (
         "two.setup",
         "two.tsc",
-        "SCLK01_N_FIELDS_82      = ( 2 )\n\
+        "SCLK01_TIME_SYSTEM_82   = ( 1 )\n\
+         SCLK01_N_FIELDS_82      = ( 2 )\n\
          SCLK01_MODULI_82        = ( 4294967296 256 )\n\
          SCLK01_OFFSETS_82       = ( 0 0 )\n\
          SCLK01_OUTPUT_DELIM_82  = ( 1 )\n\
          SCLK_PARTITION_START_82 = ( 0 0 )\n\
          SCLK_PARTITION_END_82   = ( 1000 5000 )\n\
-         SCLK01_COEFFICIENTS_82  = ( 0 0 1 )\n",
+         SCLK01_COEFFICIENTS_82  = ( 0.0E+00 0.0E+00 1.0E+00 )\n",
     ),
     // Its parallel time is TT.
     (
@@ -88,7 +92,7 @@ const CLOCKS: [(&str, &str, &str); 7] = [
          SCLK01_MODULI_82        = ( 4294967296 256 )\n\
          SCLK01_OFFSETS_82       = ( 0 0 )\n\
          SCLK01_OUTPUT_DELIM_82  = ( 1 )\n\
-         SCLK_PARTITION_START_82 = ( 0 )\n\
+         SCLK_PARTITION_START_82 = ( 0.0000000000000E+00 )\n\
          SCLK_PARTITION_END_82   = ( 1.0995116277750E+12 )\n\
          SCLK01_COEFFICIENTS_82  = ( 0 536500869.184 1 )\n",
     ),
@@ -102,9 +106,12 @@ pub fn put_clocks(alloc: Global, map: &mut FileMap) -> Result<(), OutOfMemory> {
         map.put(setup.as_bytes(), text)?;
         let mut text = Vec::from_slice(
             alloc,
-            b"KPL/SCLK\n\\begindata\nSCLK_DATA_TYPE_82 = ( 1 )\n",
+            b"KPL/SCLK\n\\begindata\n\
+              SCLK_KERNEL_ID          = ( @2004-06-21/06:08:47.00 )\n\
+              SCLK_DATA_TYPE_82       = ( 1 )\n",
         )?;
         text.extend_from_slice(clock.as_bytes())?;
+        text.extend_from_slice(b"\\begintext\n")?;
         map.put(kernel.as_bytes(), text)?;
     }
     map.put(b"noid.setup", naming(alloc, "clockc.tsc")?)?;

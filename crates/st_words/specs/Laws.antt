@@ -26,10 +26,10 @@ EachJobIsSpelled = (job : Job) → IsGoodJob job → CanBeSpelled job → (words
 abbrev pub EachJobIsGood : Type 0
 EachJobIsGood = (words : List (List ℕ)) (job : Job) → WordsGive words (Ok job) → IsGoodJob job
 
--- A loaded setup names one clock, or none for one reason.
+-- A loaded setup names at most one clock, or is refused for at most one reason.
 abbrev pub OneSetupClock : Type 0
 OneSetupClock = (loaded : List Kernel) (a b : Result ℕ IdFault) → SetupClock loaded a → SetupClock loaded b → a ≡ b
 
--- And it names one list of files, or has one first variable of a wrong kind.
+-- And it names at most one list of files, or has at most one first variable of a wrong kind.
 abbrev pub OneSetupFiles : Type 0
 OneSetupFiles = (loaded : List Kernel) (a b : Result (List (List ℕ)) SetupFault) → SetupFiles loaded a → SetupFiles loaded b → a ≡ b

@@ -23,7 +23,7 @@ pub fn each_job_is_good()
     ensures { EachJobIsGood }
 {}
 
-/// A loaded setup names one clock and one list of files, or is refused for one reason.
+/// A loaded setup names at most one clock and one list of files, and is refused for at most one reason.
 pub fn one_setup()
     ensures clock { OneSetupClock }
     ensures files { OneSetupFiles }
