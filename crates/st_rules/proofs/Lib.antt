@@ -1,0 +1,4 @@
+pub mod First
+pub mod Told
+pub mod Alike
+pub mod Agreed
