@@ -17,7 +17,7 @@ use Rattle.st_scales.proofs.Routes.{route_agrees, route_exact, route_known, rout
 use Rattle.st_tables.specs.Tables.{ClockGives}
 use Rattle.st_tables.specs.Variables.{Loaded}
 use Rattle.st_ticks.specs.Face.{Face, IsDelimiter, IsFace, ticks_in}
-use Rattle.st_ticks.specs.Rules.{AreKept}
+use Rattle.st_rules.specs.Rules.{AreKept}
 use Rattle.st_ticks.specs.Variables.{Keeps, MakesFace, Numbers, first_rules, rule}
 use Rattle.st_ticks.specs.declared.field.Partition.{Partition}
 use Rattle.st_ticks.specs.declared.variable.ClockFault.{ClockFault}

@@ -6,13 +6,13 @@ use Rattle.st_decimal.specs.declared.number.Dec.{Dec}
 use Rattle.st_scales.specs.declared.scale.Scale.{Scale}
 use Rattle.st_scales.specs.declared.scale.Scale.TheVariants.{Tdb}
 use Rattle.st_ticks.specs.Face.{Face}
-use Rattle.st_ticks.specs.Rules.{AreKept}
+use Rattle.st_rules.specs.Rules.{AreKept}
 use Rattle.st_ticks.specs.declared.fault.FaceFault.{FaceFault}
 use Rattle.st_ticks.specs.declared.fault.FaceFault.TheVariants.{Bad, OutOfMemory}
 use Rattle.st_ticks.specs.declared.variable.ClockFault.{ClockFault}
 use Rattle.st_ticks.specs.declared.variable.ClockWhy.TheVariants.{Range, Count}
 use Rattle.st_ticks.proofs.MakingLaws.{no_dec}
-use Rattle.st_ticks.proofs.Told.{kept_or_broken}
+use Rattle.st_rules.proofs.Told.{kept_or_broken}
 use Rattle.st_clock.specs.declared.coefficient.Coefficient.{Coefficient}
 use Rattle.st_clock.specs.Clock.{Clock}
 use Rattle.st_clock.specs.KeptSteps.{seen}

@@ -4,11 +4,11 @@ use Rattle.std.proofs.lemmas.Int.{ints}
 use Rattle.st_decimal.specs.declared.number.Dec.{Dec}
 use Rattle.st_scales.specs.declared.scale.Scale.{Scale}
 use Rattle.st_ticks.specs.Face.{Face, IsFace}
-use Rattle.st_ticks.specs.Rules.{AreKept, IsFirstBroken}
+use Rattle.st_rules.specs.Rules.{AreKept, IsFirstBroken}
 use Rattle.st_ticks.specs.declared.fault.FaceFault.{FaceFault}
 use Rattle.st_ticks.specs.declared.fault.FaceFault.TheVariants.{Bad, OutOfMemory}
 use Rattle.st_ticks.specs.declared.variable.ClockFault.{ClockFault}
-use Rattle.st_ticks.proofs.FirstLaws.{first_is_one, none_broken}
+use Rattle.st_rules.proofs.First.{one_first, none_broken}
 use Rattle.st_clock.specs.declared.coefficient.Coefficient.{Coefficient}
 use Rattle.st_clock.specs.Clock.{Clock, IsClock}
 use Rattle.st_clock.specs.KeptSteps.{seen, IsSound}
@@ -138,7 +138,7 @@ clock_answer_is_one face dt ts cs (Ok c) (Ok d) g h =
     inl (λ i. Ok (record { face = f i; scale = s i; records = r i }))
 clock_answer_is_one face dt ts cs (Ok c) (Err (Bad f)) g h = absurd (none_broken (Keeps dt ts cs) clock_rules f g.0 h)
 clock_answer_is_one face dt ts cs (Err (Bad e)) (Ok d) g h = absurd (none_broken (Keeps dt ts cs) clock_rules e h.0 g)
-clock_answer_is_one face dt ts cs (Err (Bad e)) (Err (Bad f)) g h = inl (ap (λ (x : ClockFault). Err (Bad x)) (first_is_one (Keeps dt ts cs) clock_rules e f g h))
+clock_answer_is_one face dt ts cs (Err (Bad e)) (Err (Bad f)) g h = inl (ap (λ (x : ClockFault). Err (Bad x)) (one_first (Keeps dt ts cs) clock_rules e f g h))
 
 pub parts_give_clock : (face : Face) (dt ts cs : List Dec) (c : Clock) → IsFace face → GivesClock face dt ts cs (Ok c) → IsClock c
 parts_give_clock face dt ts cs c is g =

@@ -11,7 +11,7 @@ use Rattle.st_scales.specs.declared.scale.Scale.TheVariants.{Tai, Tt, Tdb}
 use Rattle.st_ticks.specs.declared.variable.ClockFault.{ClockFault}
 use Rattle.st_ticks.specs.declared.variable.ClockVar.TheVariants.{DataType, TimeSystem}
 use Rattle.st_ticks.specs.declared.variable.ClockWhy.TheVariants.{NotOne, Range}
-use Rattle.st_ticks.proofs.FirstLaws.{first_is_one, none_broken}
+use Rattle.st_rules.proofs.First.{one_first, none_broken}
 use Rattle.st_clock.specs.Parts.{IsNumber, IsSystem, IsScaleOf, KeepsType, KeepsSystem, Keeps, fault, system_rules, GivesScale}
 
 -- a decimal is one number of units
@@ -112,4 +112,4 @@ pub scale_answer_is_one : (dt ts : List Dec) (a b : Result Scale ClockFault) →
 scale_answer_is_one dt ts (Ok s) (Ok t) g h = ap Ok (one_scale ts s t g.1 h.1)
 scale_answer_is_one dt ts (Ok s) (Err f) g h = absurd (none_broken (Keeps dt ts []) system_rules f g.0 h)
 scale_answer_is_one dt ts (Err e) (Ok t) g h = absurd (none_broken (Keeps dt ts []) system_rules e h.0 g)
-scale_answer_is_one dt ts (Err e) (Err f) g h = ap Err (first_is_one (Keeps dt ts []) system_rules e f g h)
+scale_answer_is_one dt ts (Err e) (Err f) g h = ap Err (one_first (Keeps dt ts []) system_rules e f g h)

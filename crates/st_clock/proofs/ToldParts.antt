@@ -14,7 +14,7 @@ use Rattle.st_ticks.specs.declared.variable.ClockVar.{ClockVar}
 use Rattle.st_ticks.specs.declared.variable.ClockVar.TheVariants.{DataType, TimeSystem, Coefficients}
 use Rattle.st_ticks.specs.declared.variable.ClockWhy.{ClockWhy}
 use Rattle.st_ticks.specs.declared.variable.ClockWhy.TheVariants.{NotOne, NotWhole, NotUnits, Range, Count, NotRising}
-use Rattle.st_ticks.proofs.Told.{IsTold, told_along, told_both, told_le, told_same}
+use Rattle.st_rules.proofs.Told.{IsTold, told_along, told_both, told_le, told_same}
 use Rattle.st_ticks.proofs.ToldNumbers.{told_times, told_from}
 use Rattle.st_clock.specs.Parts.{IsNumber, HasNumber, HasUnits, IsTick, IsTime, IsRate, IsSystem, EachThird, DoRise, KeepsType, KeepsSystem, KeepsCoefficients, KeepsPart, Keeps}
 use Rattle.st_clock.proofs.PartLaws.{times_ten_is_one}

@@ -6,7 +6,7 @@ use Rattle.st_decimal.specs.declared.number.Dec.{Dec}
 use Rattle.st_leaps.specs.declared.pair.LeapPair.{LeapPair}
 use Rattle.st_scales.specs.declared.deltet.Deltet.{Deltet}
 use Rattle.st_clock.specs.Clock.{Clock}
-use Rattle.st_ticks.specs.Rules.{AreKept}
+use Rattle.st_rules.specs.Rules.{AreKept}
 use Rattle.st_ticks.specs.declared.variable.ClockVar.{ClockVar}
 use Rattle.st_ticks.specs.declared.variable.Var.TheVariants as var
 use Rattle.st_tables.specs.Answers.{shown}

@@ -7,7 +7,7 @@ use Rattle.st_clock.specs.Parts as parts
 use Rattle.st_clock.specs.Parts.{GivesScale, GivesClock, system_rules, record_rules}
 use Rattle.st_clock.proofs.ClockLaws.{clock_answer_is_one}
 use Rattle.st_ticks.specs.Face.{Face}
-use Rattle.st_ticks.specs.Rules.{AreKept, IsFirstBroken}
+use Rattle.st_rules.specs.Rules.{AreKept, IsFirstBroken}
 use Rattle.st_ticks.specs.Variables as face
 use Rattle.st_ticks.specs.Variables.{MakesFace, face_rules}
 use Rattle.st_ticks.specs.declared.fault.FaceFault.{FaceFault}
@@ -15,7 +15,8 @@ use Rattle.st_ticks.specs.declared.fault.FaceFault.TheVariants.{Bad, OutOfMemory
 use Rattle.st_ticks.specs.declared.variable.ClockFault.{ClockFault}
 use Rattle.st_ticks.specs.declared.variable.ClockVar.{ClockVar}
 use Rattle.st_ticks.specs.declared.variable.ClockVar.TheVariants.{DataType, TimeSystem, NFields, Moduli, Offsets, Delim, Start, End, Coefficients}
-use Rattle.st_ticks.proofs.FirstLaws.{first_is_one, none_broken}
+use Rattle.st_rules.proofs.Alike.{Alike, first_along, kept_along}
+use Rattle.st_rules.proofs.First.{one_first, none_broken, kept_both, first_in_front, first_after, first_of_rest}
 use Rattle.st_ticks.proofs.OnlyLaws.{makes_one}
 use Rattle.std.specs.Result.{IsErrAnd, IfErr}
 use Rattle.st_ticks.specs.declared.variable.Var.TheVariants as ofvar
@@ -25,7 +26,6 @@ use Rattle.st_tables.specs.TablesMachine.{fault_of_face, clock_numbers, list_at}
 use Rattle.st_tables.specs.Tables.{KeepsOfClock, clock_rules, face_numbers, ClockMade}
 use Rattle.st_tables.specs.declared.fault.TableFault.{TableFault}
 use Rattle.st_tables.specs.declared.fault.TableFault.TheVariants.{NoVariable, WrongKind, Leaps, Deltet, Clock as OfClock, OutOfMemory as NoMemory}
-use Rattle.st_tables.proofs.RuleLaws.{Alike, first_along, kept_along, kept_both, first_in_front, first_behind, first_of_rest}
 
 abbrev pub Numbers : Type 0
 Numbers = ClockVar → List Dec
@@ -68,7 +68,7 @@ system_breaks n fault g =
 pub face_breaks : (n : Numbers) (scale : Scale) (fault : ClockFault) → GivesScale (n DataType) (n TimeSystem) (Ok scale)
     → MakesFace (face_numbers n) (Err (Bad fault)) → IsFirstBroken (KeepsOfClock n) clock_rules fault
 face_breaks n scale fault g m =
-    first_behind (KeepsOfClock n) system_rules (face_rules ++ record_rules) fault (system_kept n scale g)
+    first_after (KeepsOfClock n) system_rules (face_rules ++ record_rules) fault (system_kept n scale g)
     (first_in_front (KeepsOfClock n) face_rules record_rules fault (first_along (KeepsFace n) (KeepsOfClock n) face_rules fault (face_alike n) m))
 
 -- or of the coefficients
@@ -78,8 +78,8 @@ pub records_break : (n : Numbers) (scale : Scale) (f : Face) (fault : ClockFault
 records_break n scale f fault g m h =
     let kept : AreKept (KeepsParts n) system_rules = (g.0.0, (g.0.1.0, (g.0.1.1.0, (g.0.1.1.1.0, tt)))) in
     let rest = first_of_rest (KeepsParts n) system_rules record_rules fault kept h in
-    first_behind (KeepsOfClock n) system_rules (face_rules ++ record_rules) fault (system_kept n scale g)
-    (first_behind (KeepsOfClock n) face_rules record_rules fault (face_kept n f m)
+    first_after (KeepsOfClock n) system_rules (face_rules ++ record_rules) fault (system_kept n scale g)
+    (first_after (KeepsOfClock n) face_rules record_rules fault (face_kept n f m)
     (first_along (KeepsParts n) (KeepsOfClock n) record_rules fault (record_alike n) rest))
 
 -- a clock keeps all rules
@@ -121,7 +121,7 @@ clock_is_one n (Ok c) (Err (Leaps f)) h k = absurd k
 clock_is_one n (Ok c) (Err (Deltet f)) h k = absurd k
 clock_is_one n (Ok c) (Err NoMemory) h k = absurd k
 clock_is_one n (Err (OfClock f)) (Ok d) h k = absurd (none_broken (KeepsOfClock n) clock_rules f (all_kept n d k) h)
-clock_is_one n (Err (OfClock f)) (Err (OfClock g)) h k = ap (λ (x : ClockFault). Err (OfClock x)) (first_is_one (KeepsOfClock n) clock_rules f g h k)
+clock_is_one n (Err (OfClock f)) (Err (OfClock g)) h k = ap (λ (x : ClockFault). Err (OfClock x)) (one_first (KeepsOfClock n) clock_rules f g h k)
 clock_is_one n (Err (OfClock f)) (Err (NoVariable v)) h k = absurd k
 clock_is_one n (Err (OfClock f)) (Err (WrongKind v)) h k = absurd k
 clock_is_one n (Err (OfClock f)) (Err (Leaps g)) h k = absurd k

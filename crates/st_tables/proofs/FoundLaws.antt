@@ -19,7 +19,7 @@ use Rattle.st_scales.specs.declared.deltet.Deltet.{Deltet as Constants}
 use Rattle.st_scales.specs.declared.fault.DeltetFault.{DeltetFault}
 use Rattle.st_scales.proofs.AnswerLaws as constants
 use Rattle.st_ticks.specs.Face.{Face}
-use Rattle.st_ticks.specs.Rules.{AreKept, IsFirstBroken}
+use Rattle.st_rules.specs.Rules.{AreKept, IsFirstBroken}
 use Rattle.st_ticks.specs.Variables as face
 use Rattle.st_ticks.specs.Variables.{MakesFace, face_rules}
 use Rattle.st_ticks.specs.declared.variable.ClockFault.{ClockFault}
@@ -28,7 +28,7 @@ use Rattle.st_ticks.specs.declared.variable.ClockVar.TheVariants.{DataType, Time
 use Rattle.st_ticks.specs.declared.variable.Var.{Var}
 use Rattle.st_ticks.specs.declared.variable.Var.TheVariants as var
 use Rattle.st_ticks.proofs.FoundLaws.{face_made}
-use Rattle.st_ticks.proofs.Told.{IsTold, told_both, kept_or_broken}
+use Rattle.st_rules.proofs.Told.{IsTold, told_both, kept_or_broken}
 use Rattle.st_ticks.proofs.ToldRules as ticks
 use Rattle.st_tables.specs.Laws.{LeapsAreFound, ConstantsAreFound, ClockIsFound}
 use Rattle.st_tables.specs.Names.{var_name}
@@ -36,7 +36,7 @@ use Rattle.st_tables.specs.Tables.{TableGives, LeapsGive, ConstantsGive, ClockMa
 use Rattle.st_tables.specs.Variables.{Loaded, Keeps, rules_of_all, leap_vars, constant_vars, clock_vars, numbers_of}
 use Rattle.st_tables.specs.declared.fault.TableFault.{TableFault}
 use Rattle.st_tables.specs.declared.fault.TableFault.TheVariants.{NoVariable, WrongKind, Leaps, Deltet, Clock, OutOfMemory}
-use Rattle.st_tables.proofs.RuleLaws.{kept_both, kept_front, kept_back}
+use Rattle.st_rules.proofs.First.{kept_both, kept_front, kept_back}
 use Rattle.st_tables.proofs.TableLaws.{refused_is_given}
 use Rattle.st_tables.proofs.ThreeLaws.{LeapsOf, ConstantsOf, ClockOf, of_clock}
 

@@ -7,7 +7,7 @@ use Rattle.st_decimal.specs.declared.number.Dec.{Dec}
 use Rattle.st_kernel_text.specs.declared.value.Value.{Value}
 use Rattle.st_kernel_text.specs.declared.value.Value.TheVariants.{Number}
 use Rattle.st_pool.specs.Variable.{loaded_values}
-use Rattle.st_ticks.specs.Rules.{AreKept}
+use Rattle.st_rules.specs.Rules.{AreKept}
 use Rattle.st_ticks.specs.declared.variable.Var.{Var}
 use Rattle.st_tables.specs.Names.{var_name}
 use Rattle.st_tables.specs.Variables.{Loaded, Keeps, rules_of_all, numbers_of, all_numbers}

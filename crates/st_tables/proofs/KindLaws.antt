@@ -2,11 +2,12 @@
 use Rattle.std.proofs.Common.{◌≡◌, ◌≢◌, ℕ, ◌+◌, ◌<◌, ◌⊎◌, inl, inr, refl, sym, ap, ◌∙◌, subst, arith, suc, zero, List, [], ◌∷◌, ◌++◌, length, take, drop, get_or, MatchOption, Option, Some, None}
 use Rattle.std.proofs.lemmas.Grind.{flat_map-append}
 use Rattle.std.proofs.lemmas.List.{take_more}
+use Rattle.st_rules.proofs.First.{kept_both, kept_back, kept_front, first_at, first_after, first_in_front}
 use Rattle.st_ticks.proofs.RuleLaws.{split_at}
 use Rattle.st_pool.specs.Variable.{loaded_kind}
 use Rattle.st_pool.specs.declared.kind.Kind.{Kind}
 use Rattle.st_pool.specs.declared.kind.Kind.TheVariants.{Absent, Numbers, Texts, Mixed}
-use Rattle.st_ticks.specs.Rules.{AreKept, IsFirstBroken}
+use Rattle.st_rules.specs.Rules.{AreKept, IsFirstBroken}
 use Rattle.st_ticks.specs.declared.variable.ClockVar.TheVariants.{DataType, TimeSystem, NFields, Moduli, Offsets, Delim, Start, End, Coefficients}
 use Rattle.st_ticks.specs.declared.variable.Var.{Var}
 use Rattle.st_ticks.specs.declared.variable.Var.TheVariants.{DeltaAt, DeltaTa, K, Eb, M, Clock, LeapsecondsFile, SclkFile, SpacecraftId}
@@ -14,7 +15,6 @@ use Rattle.st_tables.specs.declared.fault.TableFault.{TableFault}
 use Rattle.st_tables.specs.declared.fault.TableFault.TheVariants.{NoVariable, WrongKind}
 use Rattle.st_tables.specs.Names.{var_name}
 use Rattle.st_tables.specs.Variables.{Loaded, Keeps, rules_of, rules_of_all}
-use Rattle.st_tables.proofs.RuleLaws.{kept_both, kept_back, kept_front, first_at, first_behind, first_in_front}
 
 abbrev pub both_of : Var → List TableFault
 both_of var = NoVariable var ∷ WrongKind var ∷ []
@@ -117,7 +117,7 @@ one_broken loaded vars i d fault l h f =
     let rest = drop (suc i) vars in
     subst (λ (xs : List Var). IsFirstBroken (Keeps loaded) (rules_of_all xs) fault) (sym (split_at vars i d l))
     (subst (λ (rules : List TableFault). IsFirstBroken (Keeps loaded) rules fault) (sym (rules_more (take i vars) (get_or vars i d ∷ rest)))
-    (first_behind (Keeps loaded) (rules_of_all (take i vars)) (rules_of (get_or vars i d) ++ rules_of_all rest) fault h
+    (first_after (Keeps loaded) (rules_of_all (take i vars)) (rules_of (get_or vars i d) ++ rules_of_all rest) fault h
     (first_in_front (Keeps loaded) (rules_of (get_or vars i d)) (rules_of_all rest) fault f)))
 
 -- of kept rules each variable has its own

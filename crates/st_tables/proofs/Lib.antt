@@ -6,6 +6,5 @@ pub mod KernelLaws
 pub mod KindLaws
 pub mod LeapLaws
 pub mod NumberLaws
-pub mod RuleLaws
 pub mod TableLaws
 pub mod ThreeLaws

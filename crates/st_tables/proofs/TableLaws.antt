@@ -1,15 +1,15 @@
 -- Tables that loaded kernels give: one answer each, by their own variables alone.
 use Rattle.std.proofs.Common.{◌≡◌, ◌≢◌, ◌⊎◌, inl, inr, List, [], ◌∷◌, Result, Ok, Err, refl, sym, ◌∙◌, ap, subst}
-use Rattle.st_ticks.specs.Rules.{AreKept, IsFirstBroken}
+use Rattle.st_rules.specs.Rules.{AreKept, IsFirstBroken}
 use Rattle.st_ticks.specs.declared.variable.Var.{Var}
-use Rattle.st_ticks.proofs.FirstLaws.{first_is_one, none_broken}
+use Rattle.st_rules.proofs.Alike.{Alike, alike_both, first_along, kept_along}
+use Rattle.st_rules.proofs.First.{one_first, none_broken}
 use Rattle.st_tables.specs.Laws.{IsAlike, AreAlike}
 use Rattle.st_tables.specs.Tables.{TableGives, Agree}
 use Rattle.st_tables.specs.Variables.{Loaded, Keeps, rules_of, rules_of_all, numbers_in, numbers_of}
 use Rattle.st_tables.specs.declared.fault.TableFault.{TableFault}
 use Rattle.st_tables.specs.declared.fault.TableFault.TheVariants.{NoVariable, WrongKind, Leaps, Deltet, Clock, OutOfMemory}
 use Rattle.st_tables.proofs.KindLaws.{rules_form}
-use Rattle.st_tables.proofs.RuleLaws.{Alike, alike_both, first_along, kept_along}
 
 module _ {A : Type 0} where
   agree_same : (a : Result A TableFault) → Agree a a
@@ -65,7 +65,7 @@ module _ {A : Type 0} where
             → ((fault : TableFault) × ((b ≡ Err fault) × IsFirstBroken (Keeps loaded) (rules_of_all vars) fault)) ⊎ (AreKept (Keeps loaded) (rules_of_all vars) × Made b)
             → a ≡ b
         both (inl x) (inl y) =
-            x.1.0 ∙ ap (λ (f : TableFault). Err f) (first_is_one (Keeps loaded) (rules_of_all vars) x.0 y.0 x.1.1 y.1.1) ∙ sym y.1.0
+            x.1.0 ∙ ap (λ (f : TableFault). Err f) (one_first (Keeps loaded) (rules_of_all vars) x.0 y.0 x.1.1 y.1.1) ∙ sym y.1.0
         both (inl x) (inr y) = absurd (none_broken (Keeps loaded) (rules_of_all vars) x.0 y.0 x.1.1)
         both (inr x) (inl y) = absurd (none_broken (Keeps loaded) (rules_of_all vars) y.0 x.0 y.1.1)
         both (inr x) (inr y) = one a b x.1 y.1

@@ -5,7 +5,7 @@ use Rattle.st_leaps.specs.declared.pair.LeapPair.{LeapPair}
 use Rattle.st_scales.specs.declared.deltet.Deltet.{Deltet as Constants}
 use Rattle.st_clock.specs.Clock.{Clock as TheClock}
 use Rattle.std.specs.Result.{IsErrAnd, IfErr}
-use Rattle.st_ticks.specs.Rules.{AreKept}
+use Rattle.st_rules.specs.Rules.{AreKept}
 use Rattle.st_tables.specs.declared.fault.TableFault.TheVariants.{OutOfMemory}
 use Rattle.st_ticks.specs.declared.variable.ClockVar.{ClockVar}
 use Rattle.st_ticks.specs.declared.variable.ClockVar.TheVariants.{DataType, TimeSystem, NFields, Moduli, Offsets, Delim, Start, End, Coefficients}

@@ -1,7 +1,7 @@
 -- What tables are seen as between two calls: the numbers from which each kept table was made.
 use Rattle.std.specs.Prelude.{◌≡◌, ℕ, List, Option, Some, Result, MatchResult}
 use Rattle.st_decimal.specs.declared.number.Dec.{Dec}
-use Rattle.st_ticks.specs.Rules.{AreKept}
+use Rattle.st_rules.specs.Rules.{AreKept}
 use Rattle.st_tables.specs.Variables.{Loaded, leap_vars, constant_vars, clock_vars, all_numbers, rules_of_all, Keeps}
 
 -- of each table that is kept, the numbers of its variables in their order; a clock is kept for one id, -n

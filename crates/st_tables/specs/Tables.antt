@@ -7,7 +7,7 @@ use Rattle.st_leaps.specs.Numbers.{IsTableOf}
 use Rattle.st_leaps.specs.declared.pair.LeapPair.{LeapPair}
 use Rattle.st_scales.specs.Constants.{GiveConstants}
 use Rattle.st_scales.specs.declared.deltet.Deltet.{Deltet as Constants}
-use Rattle.st_ticks.specs.Rules.{AreKept, IsFirstBroken}
+use Rattle.st_rules.specs.Rules.{AreKept, IsFirstBroken}
 use Rattle.st_ticks.specs.Variables as face
 use Rattle.st_ticks.specs.declared.variable.ClockFault.{ClockFault}
 use Rattle.st_ticks.specs.declared.variable.ClockVar.{ClockVar}

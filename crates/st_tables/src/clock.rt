@@ -1,7 +1,7 @@
 //! The clock of one id that the loaded kernels give, and its numbers.
 
 ghost use Rattle.std.specs.Prelude.{◌≡◌, ◌≢◌, ◌↔◌, length, map, Ok, Err, Some, IfOk, IfErr, OnOk, OnErr, IsOk, IsTrue, option_map};
-ghost use Rattle.st_ticks.specs.Rules.{AreKept};
+ghost use Rattle.st_rules.specs.Rules.{AreKept};
 ghost use Rattle.st_ticks.specs.declared.variable.Var.TheVariants.{Clock as OfClock};
 ghost use Rattle.st_tables.specs.Tables.{ClockGives, ClockMade};
 ghost use Rattle.st_tables.specs.TablesMachine.{clock_numbers};

@@ -2,7 +2,7 @@
 
 ghost use Rattle.std.specs.Prelude.{◌≡◌, ◌≢◌, length, Ok, Err, Some, IfOk, IfErr, OnOk, OnErr, IsOk, IsTrue, ◌↔◌, option_map};
 ghost use Rattle.st_scales.specs.Constants.{GiveConstants};
-ghost use Rattle.st_ticks.specs.Rules.{AreKept};
+ghost use Rattle.st_rules.specs.Rules.{AreKept};
 ghost use Rattle.st_ticks.specs.declared.variable.Var.TheVariants.{DeltaTa as OfTt, K as OfK, Eb as OfEb, M as OfM};
 ghost use Rattle.st_tables.specs.Tables.{ConstantsGive, ConstantsMade};
 ghost use Rattle.st_tables.specs.KeptSteps.{AreConstants};

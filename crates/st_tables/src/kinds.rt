@@ -1,7 +1,7 @@
 //! Whether the variables of a table are there, and hold numbers.
 
 ghost use Rattle.std.specs.Prelude.{◌≡◌, [], ◌∷◌, MatchOption};
-ghost use Rattle.st_ticks.specs.Rules.{AreKept, IsFirstBroken};
+ghost use Rattle.st_rules.specs.Rules.{AreKept, IsFirstBroken};
 ghost use Rattle.st_tables.specs.declared.fault.TableFault.TheVariants.{NoVariable, WrongKind};
 ghost use Rattle.st_tables.specs.Variables.{Keeps, rules_of, rules_of_all};
 

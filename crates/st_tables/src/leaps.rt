@@ -2,7 +2,7 @@
 
 ghost use Rattle.std.specs.Prelude.{◌≡◌, ◌≢◌, Ok, Err, Some, IfOk, IfErr, OnOk, OnErr, IsOk, IsTrue, ◌↔◌, option_map};
 ghost use Rattle.st_leaps.specs.OfTable.{pairs_of};
-ghost use Rattle.st_ticks.specs.Rules.{AreKept};
+ghost use Rattle.st_rules.specs.Rules.{AreKept};
 ghost use Rattle.st_ticks.specs.declared.variable.Var.TheVariants.{DeltaAt as Leap};
 ghost use Rattle.st_tables.specs.Tables.{LeapsGive, LeapsMade};
 ghost use Rattle.st_tables.specs.KeptSteps.{AreLeaps};

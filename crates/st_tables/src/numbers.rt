@@ -3,7 +3,7 @@
 ghost use Rattle.std.specs.Prelude.{◌≡◌, ◌↔◌, [], ◌∷◌, ◌++◌, IfOk, OnOk, IsTrue, Some, length, map, option_copied};
 ghost use Rattle.st_kernel_text.specs.declared.value.Value.TheVariants.{Number as OneNumber};
 ghost use Rattle.st_pool.specs.Variable.{loaded_values};
-ghost use Rattle.st_ticks.specs.Rules.{AreKept};
+ghost use Rattle.st_rules.specs.Rules.{AreKept};
 ghost use Rattle.st_tables.specs.Names.{var_name};
 ghost use Rattle.st_tables.specs.Variables.{Keeps, all_numbers, numbers_in, numbers_of as given_numbers, rules_of_all};
 

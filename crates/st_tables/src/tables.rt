@@ -7,7 +7,7 @@ ghost use Rattle.st_clock.specs.Clock.{Clock as SeenClock};
 ghost use Rattle.st_leaps.specs.OfTable.{pairs_of};
 ghost use Rattle.st_leaps.specs.declared.pair.LeapPair.{LeapPair as Pair};
 ghost use Rattle.st_scales.specs.declared.deltet.Deltet.{Deltet as Constants};
-ghost use Rattle.st_ticks.specs.Rules.{AreKept};
+ghost use Rattle.st_rules.specs.Rules.{AreKept};
 ghost use Rattle.st_tables.specs.Answers.{shown};
 ghost use Rattle.st_tables.specs.Kept.{HasLeapsOf, HasConstantsOf, HasClockOf, Keep, with_leaps, with_constants, with_clock};
 ghost use Rattle.st_tables.specs.Tables.{LeapsGive, ConstantsGive, ClockGives, LeapsMade, ConstantsMade, ClockMade, Agree};

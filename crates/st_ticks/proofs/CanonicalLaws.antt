@@ -12,7 +12,7 @@ use Rattle.st_ticks.specs.ClockText.{is_mark, IsRun, IsSeparator, Parts, SpellsF
 use Rattle.st_ticks.specs.Face.{Face, IsFace, IsField, IsPartition, IsDelimiter, span, ticks_in, earlier, total}
 use Rattle.st_ticks.specs.Laws.{CanonicalReads}
 use Rattle.st_ticks.specs.Reading.{count_of, count, AreFromOffsets, IsMeant, Keeps, text_rules, SpellsTick}
-use Rattle.st_ticks.specs.Rules.{AreKept}
+use Rattle.st_rules.specs.Rules.{AreKept}
 use Rattle.st_ticks.specs.Tick.{IsPartitionOf, count_at, fields_of, width, field_texts, spelled}
 use Rattle.st_ticks.specs.TickMachine.{place_of, partition_of}
 use Rattle.st_ticks.specs.declared.field.Field.{Field}

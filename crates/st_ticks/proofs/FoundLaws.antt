@@ -4,7 +4,7 @@ use Rattle.std.specs.List.{All}
 use Rattle.std.proofs.lemmas.List.Elements.{All-head, All-tail, All-get_or}
 use Rattle.st_decimal.specs.declared.number.Dec.{Dec}
 use Rattle.st_ticks.specs.Face.{Face}
-use Rattle.st_ticks.specs.Rules.{AreKept}
+use Rattle.st_rules.specs.Rules.{AreKept}
 use Rattle.st_ticks.specs.Variables.{Numbers, HaveModuli, HaveOffsets, IsFrom, IsNumber, Keeps, IsMadeOf, MakesFace, delimiter_of, face_rules}
 use Rattle.st_ticks.specs.declared.fault.FaceFault.{FaceFault}
 use Rattle.st_ticks.specs.declared.fault.FaceFault.TheVariants.{Bad, OutOfMemory}
@@ -12,7 +12,7 @@ use Rattle.st_ticks.specs.declared.field.Field.{Field}
 use Rattle.st_ticks.specs.declared.variable.ClockFault.{ClockFault}
 use Rattle.st_ticks.proofs.MadeLaws.{all_of_one}
 use Rattle.st_ticks.proofs.MakingLaws.{no_dec}
-use Rattle.st_ticks.proofs.Told.{kept_or_broken}
+use Rattle.st_rules.proofs.Told.{kept_or_broken}
 use Rattle.st_ticks.proofs.ToldRules.{told_rule}
 use Rattle.st_ticks.proofs.WholeLaws.{same_number}
 

@@ -18,6 +18,7 @@ use Rattle.st_ticks.specs.declared.fault.ClockTextFault.{ClockTextFault}
 use Rattle.st_ticks.specs.declared.fault.ClockTextFault.TheVariants.{TooManyFields, NoPartition, FieldBelowOffset, TooLarge, NotInPartition}
 use Rattle.st_ticks.specs.declared.field.Field.{Field}
 use Rattle.st_ticks.specs.declared.field.Partition.{Partition}
+use Rattle.st_rules.proofs.First.{first_at}
 use Rattle.st_text.proofs.Logic.{and-left, and-right}
 use Rattle.st_ticks.proofs.FieldLaws.{field_here, fields_there}
 use Rattle.st_ticks.proofs.PartsLaws.{parts_spelled, spelled_parts}
@@ -196,54 +197,24 @@ answered : (face : Face) (p : Parts) (a b : Result ℕ ClockTextFault) → a ≡
 answered face p a b e o = subst (λ (r : Result ℕ ClockTextFault). Outcome face p r) (sym e) o
 
 too_many : (face : Face) (p : Parts) → length face.fields < length p.fields → Outcome face p (Err TooManyFields)
-too_many face p l = record {
-  before = [];
-  after = NoPartition ∷ FieldBelowOffset ∷ TooLarge ∷ NotInPartition ∷ [];
-  stands = refl;
-  kept = tt;
-  broken = λ k. absurd (omega (arith, k));
-}
+too_many face p l = first_at (Keeps face p) [] (NoPartition ∷ FieldBelowOffset ∷ TooLarge ∷ NotInPartition ∷ []) TooManyFields tt (λ k. absurd (omega (arith, k)))
 
 abbrev FewFields : Face → Parts → Type 0
 FewFields face p = length p.fields ≤ length face.fields
 
 no_partition : (face : Face) (p : Parts) → FewFields face p → (IsNumbered face p.partition → ⊥) → Outcome face p (Err NoPartition)
-no_partition face p l b = record {
-  before = TooManyFields ∷ [];
-  after = FieldBelowOffset ∷ TooLarge ∷ NotInPartition ∷ [];
-  stands = refl;
-  kept = (l, tt);
-  broken = b;
-}
+no_partition face p l b = first_at (Keeps face p) (TooManyFields ∷ []) (FieldBelowOffset ∷ TooLarge ∷ NotInPartition ∷ []) NoPartition (l, tt) b
 
 below_offset : (face : Face) (p : Parts) → FewFields face p → IsNumbered face p.partition → (AreFromOffsets face.fields (values p) → ⊥) → Outcome face p (Err FieldBelowOffset)
-below_offset face p l n b = record {
-  before = TooManyFields ∷ NoPartition ∷ [];
-  after = TooLarge ∷ NotInPartition ∷ [];
-  stands = refl;
-  kept = (l, (n, tt));
-  broken = b;
-}
+below_offset face p l n b = first_at (Keeps face p) (TooManyFields ∷ NoPartition ∷ []) (TooLarge ∷ NotInPartition ∷ []) FieldBelowOffset (l, (n, tt)) b
 
 too_large : (face : Face) (p : Parts) → FewFields face p → IsNumbered face p.partition → AreFromOffsets face.fields (values p)
     → (Keeps face p TooLarge → ⊥) → Outcome face p (Err TooLarge)
-too_large face p l n o b = record {
-  before = TooManyFields ∷ NoPartition ∷ FieldBelowOffset ∷ [];
-  after = NotInPartition ∷ [];
-  stands = refl;
-  kept = (l, (n, (o, tt)));
-  broken = b;
-}
+too_large face p l n o b = first_at (Keeps face p) (TooManyFields ∷ NoPartition ∷ FieldBelowOffset ∷ []) (NotInPartition ∷ []) TooLarge (l, (n, (o, tt))) b
 
 not_in_partition : (face : Face) (p : Parts) → FewFields face p → IsNumbered face p.partition → AreFromOffsets face.fields (values p) → Keeps face p TooLarge
     → (Keeps face p NotInPartition → ⊥) → Outcome face p (Err NotInPartition)
-not_in_partition face p l n o s b = record {
-  before = TooManyFields ∷ NoPartition ∷ FieldBelowOffset ∷ TooLarge ∷ [];
-  after = [];
-  stands = refl;
-  kept = (l, (n, (o, (s, tt))));
-  broken = b;
-}
+not_in_partition face p l n o s b = first_at (Keeps face p) (TooManyFields ∷ NoPartition ∷ FieldBelowOffset ∷ TooLarge ∷ []) [] NotInPartition (l, (n, (o, (s, tt)))) b
 
 -- what is left once the values are small
 judged_place : (face : Face) (p : Parts) (n : ℕ) (o : Option ℕ) → IsFace face → n ≡ count face p → FewFields face p → IsNumbered face p.partition

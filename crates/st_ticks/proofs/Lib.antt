@@ -2,7 +2,6 @@ pub mod CanonicalLaws
 pub mod CountLaws
 pub mod FaceLaws
 pub mod FieldLaws
-pub mod FirstLaws
 pub mod FoundLaws
 pub mod JudgeLaws
 pub mod MadeLaws
@@ -16,7 +15,6 @@ pub mod RunLaws
 pub mod SoundLaws
 pub mod SpellingLaws
 pub mod TextLaws
-pub mod Told
 pub mod ToldNumbers
 pub mod ToldRules
 pub mod WholeLaws

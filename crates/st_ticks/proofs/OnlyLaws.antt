@@ -9,7 +9,7 @@ use Rattle.st_ticks.specs.declared.fault.FaceFault.TheVariants.{Bad, OutOfMemory
 use Rattle.st_ticks.specs.declared.field.Field.{Field}
 use Rattle.st_ticks.specs.declared.field.Partition.{Partition}
 use Rattle.st_ticks.specs.declared.variable.ClockFault.{ClockFault}
-use Rattle.st_ticks.proofs.FirstLaws.{none_broken, first_is_one}
+use Rattle.st_rules.proofs.First.{none_broken, one_first}
 use Rattle.st_ticks.proofs.MadeLaws.{ends_are_one}
 use Rattle.st_ticks.proofs.MakingLaws.{no_dec}
 use Rattle.st_ticks.proofs.WholeLaws.{same_number}
@@ -50,6 +50,6 @@ makes_one n (Ok f) (Ok g) h k = inl (ap (λ (x : Face). Ok x) (face_is_one n f g
 makes_one n (Ok f) (Err (Bad x)) h k = absurd (none_broken (Keeps n) face_rules x h.0 k)
 makes_one n (Ok f) (Err OutOfMemory) h k = inr (inr refl)
 makes_one n (Err (Bad x)) (Ok g) h k = absurd (none_broken (Keeps n) face_rules x k.0 h)
-makes_one n (Err (Bad x)) (Err (Bad y)) h k = inl (ap (λ (f : ClockFault). Err (Bad f)) (first_is_one (Keeps n) face_rules x y h k))
+makes_one n (Err (Bad x)) (Err (Bad y)) h k = inl (ap (λ (f : ClockFault). Err (Bad f)) (one_first (Keeps n) face_rules x y h k))
 makes_one n (Err (Bad x)) (Err OutOfMemory) h k = inr (inr refl)
 makes_one n (Err OutOfMemory) b h k = inr (inl refl)

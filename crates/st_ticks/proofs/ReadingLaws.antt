@@ -5,11 +5,11 @@ use Rattle.st_ticks.specs.ClockText.{Parts, Spells}
 use Rattle.st_ticks.specs.Face.{Face, earlier}
 use Rattle.st_ticks.specs.Laws.{ReadingIsOne}
 use Rattle.st_ticks.specs.Reading.{count, IsMeant, Keeps, text_rules, IsTickOf, ReadsClock}
-use Rattle.st_ticks.specs.Rules.{AreKept, IsFirstBroken}
+use Rattle.st_rules.specs.Rules.{AreKept, IsFirstBroken}
 use Rattle.st_ticks.specs.declared.fault.ClockTextFault.{ClockTextFault}
 use Rattle.st_ticks.specs.declared.fault.ClockTextFault.TheVariants.{Form, TooManyFields, NoPartition, FieldBelowOffset, TooLarge, NotInPartition}
 use Rattle.st_ticks.specs.declared.field.Partition.{Partition}
-use Rattle.st_ticks.proofs.FirstLaws.{none_broken, first_is_one}
+use Rattle.st_rules.proofs.First.{none_broken, one_first}
 use Rattle.st_ticks.proofs.PartitionLaws.{same_element}
 use Rattle.st_ticks.proofs.PartsLaws.{parts_are_one}
 
@@ -63,7 +63,7 @@ outcome_is_one : (face : Face) (p : Parts) (a b : Result ℕ ClockTextFault) →
 outcome_is_one face p (Ok k) (Ok m) s t = ap (λ (x : ℕ). Ok x) (tick_is_one face p k m s.1 t.1)
 outcome_is_one face p (Ok k) (Err f) s t = absurd (none_broken (Keeps face p) text_rules f s.0 t)
 outcome_is_one face p (Err f) (Ok m) s t = absurd (none_broken (Keeps face p) text_rules f t.0 s)
-outcome_is_one face p (Err f) (Err g) s t = ap (λ (x : ClockTextFault). Err x) (first_is_one (Keeps face p) text_rules f g s t)
+outcome_is_one face p (Err f) (Err g) s t = ap (λ (x : ClockTextFault). Err x) (one_first (Keeps face p) text_rules f g s t)
 
 agree : (face : Face) (text : List ℕ) (a b : Result ℕ ClockTextFault) → Answer face text a → Answer face text b → a ≡ b
 agree face text a b (no_parts e h) (no_parts f k) = e ∙ sym f

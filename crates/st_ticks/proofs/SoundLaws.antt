@@ -5,7 +5,7 @@ use Rattle.std.proofs.lemmas.Bool.{cases_Bool}
 use Rattle.std.proofs.lemmas.List.Elements.{All-nil, All-cons, All-head, All-tail, All-get_or}
 use Rattle.st_decimal.specs.declared.number.Dec.{Dec}
 use Rattle.st_ticks.specs.Face.{Face, IsFace, IsField, IsPartition, IsDelimiter, span_of_rest, total}
-use Rattle.st_ticks.specs.Rules.{AreKept}
+use Rattle.st_rules.specs.Rules.{AreKept}
 use Rattle.st_ticks.specs.Variables.{Numbers, HaveEnds, HaveModuli, HaveOffsets, IsFrom, IsNumber, Keeps, first_rules, delimiter_of}
 use Rattle.st_ticks.specs.declared.field.Field.{Field}
 use Rattle.st_ticks.specs.declared.field.Partition.{Partition}

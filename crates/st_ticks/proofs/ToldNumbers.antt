@@ -7,7 +7,7 @@ use Rattle.st_decimal.specs.ScalingMachine.{IsSizeTimesTen, with_sign_of}
 use Rattle.st_decimal.specs.declared.number.Dec.{Dec}
 use Rattle.st_decimal.proofs.ScalingLaws.{power_some, lowered_part, lowered_whole, with_sign, size_of_times, sign_of_times}
 use Rattle.st_ticks.specs.Variables.{IsFrom, IsNumber, IsWholeNumber}
-use Rattle.st_ticks.proofs.Told.{IsTold, told_le, told_same}
+use Rattle.st_rules.proofs.Told.{IsTold, told_le, told_same}
 
 pub told_times : (n power : ℤ) → IsTold ((u : ℤ) × IsTimesTen n power u)
 told_times n (pos k) = inl (n *ℤ pos (10 ^ k), refl)

@@ -13,7 +13,7 @@ use Rattle.st_ticks.specs.declared.variable.ClockWhy.{ClockWhy}
 use Rattle.st_ticks.specs.declared.variable.ClockWhy.TheVariants.{NotOne, NotWhole, Range, Count, Product}
 use Rattle.st_ticks.proofs.MadeLaws.{ends_are_one}
 use Rattle.st_ticks.proofs.RuleLaws.{rest_is_one, as_many, as_many_back}
-use Rattle.st_ticks.proofs.Told.{IsTold, told_along, told_both, told_le, told_same, told_all}
+use Rattle.st_rules.proofs.Told.{IsTold, told_along, told_both, told_le, told_same, told_all}
 use Rattle.st_ticks.proofs.ToldNumbers.{told_whole, told_from}
 use Rattle.st_ticks.proofs.WholeLaws.{same_number}
 

@@ -6,7 +6,6 @@ pub mod MakingMachine
 pub mod NumbersMachine
 pub mod Reading
 pub mod ReadingMachine
-pub mod Rules
 pub mod SpellingMachine
 pub mod TextMachine
 pub mod Tick

@@ -5,7 +5,7 @@ use Rattle.std.specs.List.{All}
 use Rattle.st_text.specs.Bytes.{number_of}
 use Rattle.st_ticks.specs.ClockText.{Parts, Spells}
 use Rattle.st_ticks.specs.Face.{Face, span, earlier}
-use Rattle.st_ticks.specs.Rules.{AreKept, IsFirstBroken}
+use Rattle.st_rules.specs.Rules.{AreKept, IsFirstBroken}
 use Rattle.st_ticks.specs.declared.fault.ClockTextFault.{ClockTextFault}
 use Rattle.st_ticks.specs.declared.fault.ClockTextFault.TheVariants.{Form, TooManyFields, NoPartition, FieldBelowOffset, TooLarge, NotInPartition}
 use Rattle.st_ticks.specs.declared.field.Field.{Field}

@@ -5,7 +5,7 @@ use Rattle.std.specs.List.{All, sum_by}
 use Rattle.st_decimal.specs.Scaling.{IsTimesTen}
 use Rattle.st_decimal.specs.declared.number.Dec.{Dec}
 use Rattle.st_ticks.specs.Face.{Face, span_of_rest, ticks_in, IsPartition}
-use Rattle.st_ticks.specs.Rules.{AreKept, IsFirstBroken}
+use Rattle.st_rules.specs.Rules.{AreKept, IsFirstBroken}
 use Rattle.st_ticks.specs.declared.fault.FaceFault.{FaceFault}
 use Rattle.st_ticks.specs.declared.fault.FaceFault.TheVariants.{Bad, OutOfMemory}
 use Rattle.st_ticks.specs.declared.field.Field.{Field}

@@ -63,7 +63,7 @@ impl Face {
     ghost use Rattle.st_ticks.specs.declared.fault.FaceFault.{FaceFault as Fault};
     ghost use Rattle.st_ticks.specs.declared.fault.FaceFault.TheVariants.{OutOfMemory as NoMemory};
     ghost use Rattle.st_ticks.specs.NumbersMachine.{numbers_of};
-    ghost use Rattle.st_ticks.specs.Rules.{AreKept};
+    ghost use Rattle.st_rules.specs.Rules.{AreKept};
     ghost use Rattle.st_ticks.specs.Variables.{Keeps, MakesFace, first_rules};
 
     /// The face that the values of six variables of a clock describe: `SCLK01_N_FIELDS_n`,

@@ -4,7 +4,7 @@ ghost use Rattle.std.specs.Prelude.{◌≡◌, ◌≤◌, ◌↔◌, ◌^◌, Li
 ghost use Rattle.std.specs.List.{All};
 ghost use Rattle.st_ticks.specs.Face.{span, span_of_rest};
 ghost use Rattle.st_ticks.specs.NumbersMachine.{numbers_of, IsEarly};
-ghost use Rattle.st_ticks.specs.Rules.{AreKept, IsFirstBroken};
+ghost use Rattle.st_rules.specs.Rules.{AreKept, IsFirstBroken};
 ghost use Rattle.st_ticks.specs.Variables.{HaveModuli, IsNumber, Keeps, KeepsNFields, KeepsModuli, KeepsOffsets, KeepsDelim, KeepsStart, KeepsEnd, first_rules};
 ghost use Rattle.st_ticks.specs.declared.field.Field.{Field as OneField};
 ghost use Rattle.st_ticks.specs.declared.variable.ClockVar.TheVariants.{End as EndVar};

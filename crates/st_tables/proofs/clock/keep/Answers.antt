@@ -1,8 +1,8 @@
 use Rattle.std.proofs.Common.{subst, List}
-use Rattle.st_ticks.specs.Rules.{IsFirstBroken}
+use Rattle.st_rules.specs.Rules.{IsFirstBroken}
 use Rattle.st_ticks.specs.declared.variable.Var.{Var}
 use Rattle.st_tables.specs.Variables.{Keeps, clock_vars, rules_of_all}
-use Rattle.st_ticks.proofs.FirstLaws.{none_broken}
+use Rattle.st_rules.proofs.First.{none_broken}
 use Rattle.st_tables.proofs.clock.keep.Goals as goal
 
 pub returns-in-Some-clause-no_memory : goal.returns-in-Some-clause-no_memory

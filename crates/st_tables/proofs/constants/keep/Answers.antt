@@ -1,4 +1,4 @@
-use Rattle.st_ticks.proofs.FirstLaws.{none_broken}
+use Rattle.st_rules.proofs.First.{none_broken}
 use Rattle.st_tables.specs.Variables.{Keeps, constant_vars, rules_of_all}
 use Rattle.st_tables.proofs.ThreeLaws.{constants_fault}
 use Rattle.st_tables.proofs.constants.keep.Goals as goal

@@ -1,5 +1,5 @@
 use Rattle.std.proofs.Common.{take}
-use Rattle.st_ticks.specs.Rules.{AreKept}
+use Rattle.st_rules.specs.Rules.{AreKept}
 use Rattle.st_tables.specs.Variables.{Keeps, rules_of_all}
 use Rattle.st_tables.proofs.kinds.first_refused.Given as goal
 

@@ -1,4 +1,4 @@
-use Rattle.st_ticks.proofs.FirstLaws.{none_broken}
+use Rattle.st_rules.proofs.First.{none_broken}
 use Rattle.st_tables.specs.Variables.{Keeps, leap_vars, rules_of_all}
 use Rattle.st_tables.proofs.leaps.keep.Goals as goal
 

@@ -1,6 +1,6 @@
 use Rattle.std.proofs.Common.{take}
 use Rattle.st_ticks.specs.NumbersMachine.{numbers_of}
-use Rattle.st_ticks.specs.Rules.{AreKept}
+use Rattle.st_rules.specs.Rules.{AreKept}
 use Rattle.st_ticks.specs.Variables.{Keeps, first_rules}
 use Rattle.st_ticks.proofs.numbers.first_broken.Given as goal
 
