@@ -41,7 +41,7 @@ between route r target outcome lo hi l h a b = record {
 
 -- they have different ones
 pub undecided : (route : Route) (r : Fraction) (target : Target) (a b : Outcome) (lo hi : ℤ) → HasSineOnIt route → IsAtLeast route r (units lo) → IsAtMost route r (units hi)
-    → lo ≤ℤ hi → (hi -ℤ lo) ≤ℤ pos 900001 → IsOutcome target (units lo) a → IsOutcome target (units hi) b → a ≢ b → MayBeUndecided route r target
+    → lo ≤ℤ hi → (hi -ℤ lo) ≤ℤ pos 1001 → IsOutcome target (units lo) a → IsOutcome target (units hi) b → a ≢ b → MayBeUndecided route r target
 undecided route r target a b lo hi sine l h ordered narrow has_a has_b differ = record {
   sine = sine;
   low = units lo;
@@ -82,7 +82,7 @@ pub known_prints : (route : Route) (r : Fraction) (picture : Picture) (leaps : O
 known_prints route r picture leaps lo hi text l h (cell, a, b, t) = (in_cell cell, between route r (by_picture picture leaps) (in_cell cell) lo hi l h a b, t)
 
 pub known_differs : (route : Route) (r : Fraction) (picture : Picture) (leaps : Option LeapTable) (lo hi : ℤ) (a b : Cell) → HasSineOnIt route
-    → IsAtLeast route r (units lo) → IsAtMost route r (units hi) → lo ≤ℤ hi → (hi -ℤ lo) ≤ℤ pos 900001
+    → IsAtLeast route r (units lo) → IsAtMost route r (units hi) → lo ≤ℤ hi → (hi -ℤ lo) ≤ℤ pos 1001
     → PrintsIn picture leaps lo hi (Err (prints.Undecided a b)) → MayBeUndecided route r (by_picture picture leaps)
 known_differs route r picture leaps lo hi a b sine l h ordered narrow (has_a, has_b, differ) =
     undecided route r (by_picture picture leaps) (in_cell a) (in_cell b) lo hi sine l h ordered narrow has_a has_b (cells_differ a b differ)
@@ -120,7 +120,7 @@ pub ticks_print : (route : Route) (r : Fraction) (clock : Clock) (form : TickFor
 ticks_print route r clock form lo hi t l h (a, b) = between route r (by_clock clock form) (at_tick t) lo hi l h a b
 
 pub ticks_undecided : TickIsOne → (route : Route) (r : Fraction) (clock : Clock) (form : TickForm) (lo hi : ℤ) (e : TicksUndecided) → IsClock clock
-    → IsAtLeast route r (units lo) → IsAtMost route r (units hi) → lo ≤ℤ hi → (hi -ℤ lo) ≤ℤ pos 900001 → (HasNoSineOnIt route → lo ≡ hi)
+    → IsAtLeast route r (units lo) → IsAtMost route r (units hi) → lo ≤ℤ hi → (hi -ℤ lo) ≤ℤ pos 1001 → (HasNoSineOnIt route → lo ≡ hi)
     → GivesTicks clock (units lo) (units hi) (Err e) → MayBeUndecided route r (by_clock clock form)
 ticks_undecided one route r clock form lo hi e is l h ordered narrow exact (a, (b, differ)) = elim (sine_or_none route) [
   | inl sine ↦ undecided route r (by_clock clock form) (at_tick e.lo) (at_tick e.hi) lo hi sine l h ordered narrow a b (ticks_differ e.lo e.hi differ)

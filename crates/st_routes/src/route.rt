@@ -46,7 +46,7 @@ impl Route {
         ensures at_least { (x : Fraction) → IsFraction x → LiesWithin time.lo time.hi x → IsAtLeast self.now x (units result.lo) }
         ensures at_most { (x : Fraction) → IsFraction x → LiesWithin time.lo time.hi x → IsAtMost self.now x (units result.hi) }
         ensures exact { HasNoSineOnIt self.now → (result.lo ≡ time.lo +ℤ shift self.now) × (result.hi ≡ time.hi +ℤ shift self.now) }
-        ensures narrow { (result.hi -ℤ result.lo) ≤ℤ pos 900001 }
+        ensures narrow { (result.hi -ℤ result.lo) ≤ℤ pos 1001 }
         ensures lo { IsPrintable result.lo }
         ensures hi { IsPrintable result.hi }
     {

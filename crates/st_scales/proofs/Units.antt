@@ -87,8 +87,8 @@ pub record IsClose (a f g : ℤ) : Type 0 where
   pub low : (a -ℤ pos (10 ^ 7)) ≤ℤ f
   pub high : g ≤ℤ (a +ℤ pos (10 ^ 7))
 
-pub close_to : (c : Deltet) (a low high t f g : ℤ) → TdbIsAtLeast c (units a) (units low) → TdbIsAtMost c (units a) (units high) → (high -ℤ low) ≤ℤ pos 840001 → EndsAtMost (low -ℤ a) (high -ℤ a) (4 * 10 ^ 15)
-    → t ≡ (a +ℤ (a -ℤ low)) → TdbIsAtLeast c (units t) (units f) → TdbIsAtMost c (units t) (units g) → f ≤ℤ g → (g -ℤ f) ≤ℤ pos 840001 → low ≤ℤ high → IsClose a f g
+pub close_to : (c : Deltet) (a low high t f g : ℤ) → TdbIsAtLeast c (units a) (units low) → TdbIsAtMost c (units a) (units high) → (high -ℤ low) ≤ℤ pos 601 → EndsAtMost (low -ℤ a) (high -ℤ a) (4 * 10 ^ 15)
+    → t ≡ (a +ℤ (a -ℤ low)) → TdbIsAtLeast c (units t) (units f) → TdbIsAtMost c (units t) (units g) → f ≤ℤ g → (g -ℤ f) ≤ℤ pos 601 → low ≤ℤ high → IsClose a f g
 close_to c a low high t f g at_low at_high narrow ends e at_f at_g order width firsts =
     let d : unsigned_abs (t -ℤ a) ≤ 4 * 10 ^ 6 * 10 ^ 9 = omega (arith, ints, e, ends.low, ends.high) in
     let l = low +ℤ (t -ℤ a) -ℤ pos (4 * 10 ^ 6) in

@@ -15,14 +15,14 @@ use st_sine::anomaly_sine;
 /// units of 10^-18 s past J2000.
 ///
 /// `r` is at most 1,000 units wide, and its ends are at most 6,311,391,500 s in magnitude. Where no
-/// sine stands on the way the ends are shifted, and else the answer is at most 900,000 units wider
+/// sine stands on the way the ends are shifted, and else the answer is at most 1,000 units wider
 /// than `r`. Each end lies within 101 s of the same end of `r`.
 pub fn convert(c: &Deltet, r: Enc, from: Scale, to: Scale) -> Enc
     requires ends { EndsAtMost r.lo r.hi (6311391500 * 10 ^ 18) }
     requires narrow { (r.hi -ℤ r.lo) ≤ℤ pos 1000 }
     ensures contains { (x : Fraction) → IsFraction x → LiesWithin r.lo r.hi x → HasValue c.now from to result.lo result.hi x }
     ensures exact { HasNoSineOnIt c.now from to → (result.lo ≡ r.lo +ℤ shift c.now from to) × (result.hi ≡ r.hi +ℤ shift c.now from to) }
-    ensures narrow { (result.hi -ℤ result.lo) ≤ℤ (r.hi -ℤ r.lo +ℤ pos 900000) }
+    ensures narrow { (result.hi -ℤ result.lo) ≤ℤ (r.hi -ℤ r.lo +ℤ pos 1000) }
     ensures low_near { unsigned_abs (result.lo -ℤ r.lo) ≤ 101 * 10 ^ 18 }
     ensures high_near { unsigned_abs (result.hi -ℤ r.hi) ≤ 101 * 10 ^ 18 }
 {
@@ -42,7 +42,7 @@ fn tdb_at(c: &Deltet, t: i128) -> Enc
     requires { unsigned_abs t ≤ 6311492000 * 10 ^ 18 }
     ensures at_least { TdbIsAtLeast c.now (units t) (units result.lo) }
     ensures at_most { TdbIsAtMost c.now (units t) (units result.hi) }
-    ensures narrow { (result.hi -ℤ result.lo) ≤ℤ pos 840001 }
+    ensures narrow { (result.hi -ℤ result.lo) ≤ℤ pos 601 }
     ensures near { EndsAtMost (result.lo -ℤ t) (result.hi -ℤ t) (4 * 10 ^ 15) }
 {
     let sine = anomaly_sine(&c.orbit(), t);
@@ -57,7 +57,7 @@ fn tdb_of(c: &Deltet, r: Enc) -> Enc
     ensures at_least { (x : Fraction) → IsFraction x → LiesWithin r.lo r.hi x → TdbIsAtLeast c.now x (units result.lo) }
     ensures at_most { (x : Fraction) → IsFraction x → LiesWithin r.lo r.hi x → TdbIsAtMost c.now x (units result.hi) }
     ensures exact { c.now.k ≡ pos 0 → (result.lo ≡ r.lo) × (result.hi ≡ r.hi) }
-    ensures narrow { (result.hi -ℤ result.lo) ≤ℤ (r.hi -ℤ r.lo +ℤ pos 900000) }
+    ensures narrow { (result.hi -ℤ result.lo) ≤ℤ (r.hi -ℤ r.lo +ℤ pos 1000) }
     ensures low_near { unsigned_abs (result.lo -ℤ r.lo) ≤ 10 ^ 16 }
     ensures high_near { unsigned_abs (result.hi -ℤ r.hi) ≤ 10 ^ 16 }
 {
@@ -79,7 +79,7 @@ fn tt_of(c: &Deltet, r: Enc) -> Enc
     ensures at_least { (x : Fraction) → IsFraction x → LiesWithin r.lo r.hi x → TtIsAtLeast c.now x (units result.lo) }
     ensures at_most { (x : Fraction) → IsFraction x → LiesWithin r.lo r.hi x → TtIsAtMost c.now x (units result.hi) }
     ensures exact { c.now.k ≡ pos 0 → (result.lo ≡ r.lo) × (result.hi ≡ r.hi) }
-    ensures narrow { (result.hi -ℤ result.lo) ≤ℤ (r.hi -ℤ r.lo +ℤ pos 900000) }
+    ensures narrow { (result.hi -ℤ result.lo) ≤ℤ (r.hi -ℤ r.lo +ℤ pos 1000) }
     ensures low_near { unsigned_abs (result.lo -ℤ r.lo) ≤ 10 ^ 16 }
     ensures high_near { unsigned_abs (result.hi -ℤ r.hi) ≤ 10 ^ 16 }
 {
@@ -369,7 +369,7 @@ mod tests {
         let value = t + difference.div_euclid(PARTS);
         assert!(rt; found.lo <= value, "below {t}");
         assert!(rt; value < found.hi, "above {t}");
-        assert!(rt; found.hi.saturating_sub(found.lo) <= 900_000, "at {t}");
+        assert!(rt; found.hi.saturating_sub(found.lo) <= 1_000, "at {t}");
     }
 
     fn leads_to(rt: &impl Abort, c: &Deltet, t: i128, from: Scale, to: Scale, wanted: Enc) {

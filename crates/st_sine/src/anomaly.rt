@@ -8,12 +8,12 @@ use crate::quarters::sine_of;
 use st_enclosure::{Enc, UNIT};
 
 /// An enclosure of sin E at `t`, which is TT in units past J2000, at most 6,311,500,000 s to either side; with
-/// `E = M + EB sin M` and `M = M0 + M1 t`. At most 42·10^7 units wide.
+/// `E = M + EB sin M` and `M = M0 + M1 t`. At most 300,000 units wide.
 pub fn anomaly_sine(orbit: &Orbit, t: i128) -> Enc
     requires low { neg_ℤ (pos (6311500000 * 10 ^ 18)) ≤ℤ t }
     requires high { t ≤ℤ pos (6311500000 * 10 ^ 18) }
     ensures contains { HasAnomalySine orbit.now.eb orbit.now.m0 orbit.now.m1 (units t) result.lo result.hi }
-    ensures narrow { (result.hi -ℤ result.lo) ≤ℤ pos (42 * 10 ^ 7) }
+    ensures narrow { (result.hi -ℤ result.lo) ≤ℤ pos 300000 }
     ensures ends { EndsAtMost result.lo result.hi (2 * 10 ^ 18) }
 {
     let mean = mean_of(orbit.m0, orbit.m1, t);
@@ -42,12 +42,12 @@ fn mean_of(m0: i128, m1: i128, t: i128) -> Enc
 fn eccentric_of(mean: Enc, sine: Enc, eb: i128) -> Enc
     requires mean_ends { EndsAtMost mean.lo mean.hi (2540 * 10 ^ 18) }
     requires sine_ends { EndsAtMost sine.lo sine.hi (2 * 10 ^ 18) }
-    requires sine_narrow { (sine.hi -ℤ sine.lo) ≤ℤ pos (4 * 10 ^ 8) }
+    requires sine_narrow { (sine.hi -ℤ sine.lo) ≤ℤ pos 300000 }
     requires mean_narrow { (mean.hi -ℤ mean.lo) ≤ℤ pos 1 }
     requires eb_low { pos 0 ≤ℤ eb }
     requires eb_high { eb ≤ℤ pos (2 * 10 ^ 16) }
     ensures contains { (x s : Fraction) → LiesWithin mean.lo mean.hi x → LiesWithin sine.lo sine.hi s → LiesWithin result.lo result.hi (x +ᶠ s *ᶠ units eb) }
-    ensures narrow { (result.hi -ℤ result.lo) ≤ℤ pos (10 ^ 7) }
+    ensures narrow { (result.hi -ℤ result.lo) ≤ℤ pos 10000 }
     ensures ends { EndsAtMost result.lo result.hi (2600 * 10 ^ 18) }
 {
     let inner = sine.times_fraction(eb, UNIT);

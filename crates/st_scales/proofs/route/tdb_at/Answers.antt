@@ -24,7 +24,7 @@ add-requires-clause-other_ends c =
     let y : FitsSigned w128 c.k.result = omega (arith, ints, c.k.ensures, d.k_low, d.k_high) in
     let l = simp to_z-of_z at c.times_fraction-moved.ensures.tight_low in
     let u = simp to_z-of_z at c.times_fraction-moved.ensures.tight_high in
-    let s = is_scaled c.anomaly_sine-sine.result.lo c.anomaly_sine-sine.result.hi c.k.result c.times_fraction-moved.result.lo c.times_fraction-moved.result.hi l.0 u.0 (42 * 10 ^ 7) (2 * 10 ^ 18) (2 * 10 ^ 15) 840000 (4 * 10 ^ 15)
+    let s = is_scaled c.anomaly_sine-sine.result.lo c.anomaly_sine-sine.result.hi c.k.result c.times_fraction-moved.result.lo c.times_fraction-moved.result.hi l.0 u.0 300000 (2 * 10 ^ 18) (2 * 10 ^ 15) 600 (4 * 10 ^ 15)
     c.anomaly_sine-sine.result.ordered c.anomaly_sine-sine.ensures.narrow c.anomaly_sine-sine.ensures.ends (omega (arith, ints, c.k.ensures, d.k_low)) (omega (arith, ints, c.k.ensures, d.k_high)) (lit≤ tt) (lit≤ tt) l.1.0 l.1.1 u.1.0 u.1.1 in
     let e = s.ends in
     record { low = omega (arith, ints, e.low); high = omega (arith, ints, e.high) }
@@ -68,7 +68,7 @@ returns-clause-narrow c =
     let y : FitsSigned w128 c.k.result = omega (arith, ints, c.k.ensures, d.k_low, d.k_high) in
     let l = simp to_z-of_z at c.times_fraction-moved.ensures.tight_low in
     let u = simp to_z-of_z at c.times_fraction-moved.ensures.tight_high in
-    let s = is_scaled c.anomaly_sine-sine.result.lo c.anomaly_sine-sine.result.hi c.k.result c.times_fraction-moved.result.lo c.times_fraction-moved.result.hi l.0 u.0 (42 * 10 ^ 7) (2 * 10 ^ 18) (2 * 10 ^ 15) 840000 (4 * 10 ^ 15)
+    let s = is_scaled c.anomaly_sine-sine.result.lo c.anomaly_sine-sine.result.hi c.k.result c.times_fraction-moved.result.lo c.times_fraction-moved.result.hi l.0 u.0 300000 (2 * 10 ^ 18) (2 * 10 ^ 15) 600 (4 * 10 ^ 15)
     c.anomaly_sine-sine.result.ordered c.anomaly_sine-sine.ensures.narrow c.anomaly_sine-sine.ensures.ends (omega (arith, ints, c.k.ensures, d.k_low)) (omega (arith, ints, c.k.ensures, d.k_high)) (lit≤ tt) (lit≤ tt) l.1.0 l.1.1 u.1.0 u.1.1 in
     omega (arith, ints, s.width, pl, ph, c.add.ensures.low, c.add.ensures.high)
 
@@ -81,7 +81,7 @@ returns-clause-near c =
     let y : FitsSigned w128 c.k.result = omega (arith, ints, c.k.ensures, d.k_low, d.k_high) in
     let l = simp to_z-of_z at c.times_fraction-moved.ensures.tight_low in
     let u = simp to_z-of_z at c.times_fraction-moved.ensures.tight_high in
-    let s = is_scaled c.anomaly_sine-sine.result.lo c.anomaly_sine-sine.result.hi c.k.result c.times_fraction-moved.result.lo c.times_fraction-moved.result.hi l.0 u.0 (42 * 10 ^ 7) (2 * 10 ^ 18) (2 * 10 ^ 15) 840000 (4 * 10 ^ 15)
+    let s = is_scaled c.anomaly_sine-sine.result.lo c.anomaly_sine-sine.result.hi c.k.result c.times_fraction-moved.result.lo c.times_fraction-moved.result.hi l.0 u.0 300000 (2 * 10 ^ 18) (2 * 10 ^ 15) 600 (4 * 10 ^ 15)
     c.anomaly_sine-sine.result.ordered c.anomaly_sine-sine.ensures.narrow c.anomaly_sine-sine.ensures.ends (omega (arith, ints, c.k.ensures, d.k_low)) (omega (arith, ints, c.k.ensures, d.k_high)) (lit≤ tt) (lit≤ tt) l.1.0 l.1.1 u.1.0 u.1.1 in
     let e = s.ends in
     record { low = omega (arith, ints, e.low, pl, c.add.ensures.low); high = omega (arith, ints, e.high, ph, c.add.ensures.high) }

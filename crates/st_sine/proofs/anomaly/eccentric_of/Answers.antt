@@ -9,7 +9,7 @@ add-requires-clause-other_ends c =
     let y = c.ranges.eb in
     let l = simp to_z-of_z at c.times_fraction-inner.ensures.tight_low in
     let u = simp to_z-of_z at c.times_fraction-inner.ensures.tight_high in
-    let s = is_scaled c.args.sine.lo c.args.sine.hi c.args.eb c.times_fraction-inner.result.lo c.times_fraction-inner.result.hi l.0 u.0 (4 * 10 ^ 8) (2 * 10 ^ 18) (2 * 10 ^ 16) (8 * 10 ^ 6) (4 * 10 ^ 16)
+    let s = is_scaled c.args.sine.lo c.args.sine.hi c.args.eb c.times_fraction-inner.result.lo c.times_fraction-inner.result.hi l.0 u.0 300000 (2 * 10 ^ 18) (2 * 10 ^ 16) 6000 (4 * 10 ^ 16)
     c.args.sine.ordered c.requires.sine_narrow c.requires.sine_ends c.requires.eb_low c.requires.eb_high (lit≤ tt) (lit≤ tt) l.1.0 l.1.1 u.1.0 u.1.1 in
     let e = s.ends in
     record { low = omega (arith, ints, e.low); high = omega (arith, ints, e.high) }
@@ -25,7 +25,7 @@ returns-clause-narrow c =
     let y = c.ranges.eb in
     let l = simp to_z-of_z at c.times_fraction-inner.ensures.tight_low in
     let u = simp to_z-of_z at c.times_fraction-inner.ensures.tight_high in
-    let s = is_scaled c.args.sine.lo c.args.sine.hi c.args.eb c.times_fraction-inner.result.lo c.times_fraction-inner.result.hi l.0 u.0 (4 * 10 ^ 8) (2 * 10 ^ 18) (2 * 10 ^ 16) (8 * 10 ^ 6) (4 * 10 ^ 16)
+    let s = is_scaled c.args.sine.lo c.args.sine.hi c.args.eb c.times_fraction-inner.result.lo c.times_fraction-inner.result.hi l.0 u.0 300000 (2 * 10 ^ 18) (2 * 10 ^ 16) 6000 (4 * 10 ^ 16)
     c.args.sine.ordered c.requires.sine_narrow c.requires.sine_ends c.requires.eb_low c.requires.eb_high (lit≤ tt) (lit≤ tt) l.1.0 l.1.1 u.1.0 u.1.1 in
     let e = s.ends in
     omega (arith, ints, s.width, c.add.ensures.low, c.add.ensures.high)
@@ -35,7 +35,7 @@ returns-clause-ends c =
     let y = c.ranges.eb in
     let l = simp to_z-of_z at c.times_fraction-inner.ensures.tight_low in
     let u = simp to_z-of_z at c.times_fraction-inner.ensures.tight_high in
-    let s = is_scaled c.args.sine.lo c.args.sine.hi c.args.eb c.times_fraction-inner.result.lo c.times_fraction-inner.result.hi l.0 u.0 (4 * 10 ^ 8) (2 * 10 ^ 18) (2 * 10 ^ 16) (8 * 10 ^ 6) (4 * 10 ^ 16)
+    let s = is_scaled c.args.sine.lo c.args.sine.hi c.args.eb c.times_fraction-inner.result.lo c.times_fraction-inner.result.hi l.0 u.0 300000 (2 * 10 ^ 18) (2 * 10 ^ 16) 6000 (4 * 10 ^ 16)
     c.args.sine.ordered c.requires.sine_narrow c.requires.sine_ends c.requires.eb_low c.requires.eb_high (lit≤ tt) (lit≤ tt) l.1.0 l.1.1 u.1.0 u.1.1 in
     let e = s.ends in
     record { low = omega (arith, ints, e.low, c.add.ensures.low); high = omega (arith, ints, e.high, c.add.ensures.high) }
