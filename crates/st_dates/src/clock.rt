@@ -8,7 +8,7 @@ ghost use Rattle.st_dates.specs.declared.clock.TimeOfDay.{TimeOfDay as Time};
 
 use crate::decimals::read_decimals;
 use crate::label;
-use st_text::{after, is_digit_run, read_digits, split_digits};
+use st_text::{after, has_length, read_digits, split_digits};
 
 /// The units in a second.
 const SECOND: u128 = label::SECOND as u128;
@@ -73,7 +73,7 @@ fn read_field(text: &[u8], last: u64) -> Option<(u64, &[u8])>
     ensures within { IfSome result (λ p. p.0 ≤ last) }
 {
     let (digits, rest) = split_digits(text);
-    if !is_digit_run(digits, 1, 2) {
+    if !has_length(digits, 1, 2) {
         return None;
     }
     let number = read_digits(digits);

@@ -9,7 +9,7 @@ ghost use Rattle.st_dates.specs.DayTextMachine.{month_of_name, number_in, is_no_
 ghost use Rattle.st_dates.specs.declared.day_text.CalendarDate.{CalendarDate as Date};
 
 use crate::{day_of, day_of_doy, month_of};
-use st_text::{after, is_digit_run, read_digits, split_digits};
+use st_text::{after, has_length, read_digits, split_digits};
 
 /// A date as a text names it, whether the calendar has it or not.
 #[derive(Clone, Copy, Debug, PartialEq, Eq, Hash)]
@@ -42,7 +42,7 @@ fn find_day(text: &[u8]) -> Option<(CalendarDate, &[u8])>
     let (first, rest) = split_digits(text);
     if first.len() == 4 {
         year_first(read_digits(first) as u32, after(rest, b'-')?)
-    } else if is_digit_run(first, 1, 2) {
+    } else if has_length(first, 1, 2) {
         month_next(read_digits(first) as u32, after(rest, b'-')?)
     } else {
         None
@@ -64,7 +64,7 @@ fn year_first(year: u32, text: &[u8]) -> Option<(CalendarDate, &[u8])>
     } else if second.len() == 3 {
         let place = read_digits(second) as u32;
         Some((CalendarDate::OfYear { year, place }, rest))
-    } else if is_digit_run(second, 1, 2) {
+    } else if has_length(second, 1, 2) {
         with_day(year, read_digits(second) as u32, after(rest, b'-')?)
     } else {
         None
@@ -121,7 +121,7 @@ fn with_day(year: u32, month: u32, text: &[u8]) -> Option<(CalendarDate, &[u8])>
     ensures year { IfSome result (λ p. HasFourDigits p.0) }
 {
     let (digits, rest) = split_digits(text);
-    if !is_digit_run(digits, 1, 2) {
+    if !has_length(digits, 1, 2) {
         return None;
     }
     let day = read_digits(digits) as u32;

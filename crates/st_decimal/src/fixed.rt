@@ -1,6 +1,6 @@
 //! Whole numbers written as decimals with a fixed count of places.
 
-ghost use Rattle.std.specs.Prelude.{◌≡◌, ◌+◌, ◌≤◌, ◌++◌, length, drop, OnOk, OnErr};
+ghost use Rattle.std.specs.Prelude.{◌≡◌, ◌+◌, ◌/◌, ◌%◌, ◌^◌, ◌≤◌, ◌++◌, length, drop, OnOk, OnErr};
 ghost use Rattle.st_decimal.specs.Fixed.{fixed, decimals};
 
 use crate::memory::OutOfMemory;
@@ -36,15 +36,32 @@ fn write_fixed(buffer: &mut [u8], n: i128, places: u32) -> usize
     ensures written { drop result buffer.new ≡ fixed n places }
     ensures within { result ≤ ROOM }
 {
-    let number = n.unsigned_abs();
-    let one = 10u128.pow(places);
-    let point = write_decimals(buffer, number % one, places as usize);
-    let start = write_padded(buffer, point, number / one, 1);
+    let (whole, decimals) = split_at_point(n.unsigned_abs(), places);
+    let point = write_decimals(buffer, decimals, places as usize);
+    let start = write_padded(buffer, point, whole, 1);
     if n < 0 {
         buffer[start - 1] = b'-';
         start - 1
     } else {
         start
+    }
+}
+
+/// What stands before the point and after it. A number of 64 bits, as nearly all are, is divided as one.
+fn split_at_point(number: u128, places: u32) -> (u128, u128)
+    requires { places ≤ MOST_PLACES }
+    ensures whole { result.0 ≡ number / 10 ^ places }
+    ensures decimals { result.1 ≡ number % 10 ^ places }
+{
+    match u64::try_from(number) {
+        Ok(short) => {
+            let one = 10u64.pow(places);
+            (u128::from(short / one), u128::from(short % one))
+        }
+        Err(_) => {
+            let one = 10u128.pow(places);
+            (number / one, number % one)
+        }
     }
 }
 

@@ -15,11 +15,19 @@ pub(crate) fn read_date(text: &[u8]) -> Option<(CalendarDate, &[u8])>
         (λ p. machine.date_of_text text.now ≡ Some (p.0, p.1.now)) }
     ensures year { IfSome result (λ p. HasFourDigits p.0) }
 {
-    read_day(text)
-        .or(read_year_first(text))
-        .or(read_day_first(text))
-        .or(read_slashed(text))
-        .or(read_month_first(text))
+    if let Some(dashed) = read_day(text) {
+        return Some(dashed);
+    }
+    if let Some(year_first) = read_year_first(text) {
+        return Some(year_first);
+    }
+    if let Some(day_first) = read_day_first(text) {
+        return Some(day_first);
+    }
+    if let Some(slashed) = read_slashed(text) {
+        return Some(slashed);
+    }
+    read_month_first(text)
 }
 
 /// A month's name up to a blank, and what stands behind it and the blanks.

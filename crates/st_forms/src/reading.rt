@@ -57,15 +57,19 @@ impl Reading {
     }
 }
 
-/// What a text spells, where it has a form of a time.
+/// What a text spells, where it has a form of a time. Each form is tried only where those before it failed.
 #[tactic(auto, unfolding(crate::specs::ReadingMachine::reading_of))]
 pub(crate) fn find_reading(text: &[u8]) -> Option<Reading>
     ensures value { result ≡ machine.reading_of text.now }
     ensures small { IfSome result IsSmall }
 {
-    read_seconds(text)
-        .or(read_julian(text))
-        .or(read_dated(text))
+    if let Some(seconds) = read_seconds(text) {
+        return Some(seconds);
+    }
+    if let Some(julian) = read_julian(text) {
+        return Some(julian);
+    }
+    read_dated(text)
 }
 
 /// Plain seconds: a sign or none, and a decimal.

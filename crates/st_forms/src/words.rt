@@ -5,7 +5,7 @@ ghost use Rattle.std.specs.List.{prefix_len};
 ghost use Rattle.st_forms.specs.WordMachine as machine;
 ghost use Rattle.st_forms.specs.WordMachine.{is_no_blank, run, word, past_word};
 
-use st_text::{is_blank, is_digit_run, read_digits, skip_blanks, split_digits};
+use st_text::{has_length, is_blank, read_digits, skip_blanks, split_digits};
 
 /// The number of the digits with which a text begins, from `low` to `high` of them, and the rest.
 #[tactic(auto, unfolding(crate::specs::WordMachine::run))]
@@ -16,7 +16,7 @@ pub(crate) fn read_run(text: &[u8], low: usize, high: usize) -> Option<(u32, &[u
     ensures few { IfSome result (λ p. p.0 ≤ 9999) }
 {
     let (digits, rest) = split_digits(text);
-    if !is_digit_run(digits, low, high) {
+    if !has_length(digits, low, high) {
         return None;
     }
     Some((read_digits(digits) as u32, rest))

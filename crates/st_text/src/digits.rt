@@ -20,7 +20,7 @@ pub fn read_digits(text: &[u8]) -> u64
 {
     let mut number = 0;
     for byte in text {
-        number = 10 * number + u64::from(byte.saturating_sub(b'0'));
+        number = 10 * number + u64::from(*byte - b'0');
     }
     number
 }
@@ -34,7 +34,7 @@ pub fn read_wide_digits(text: &[u8]) -> u128
 {
     let mut number = 0;
     for byte in text {
-        number = 10 * number + u128::from(byte.saturating_sub(b'0'));
+        number = 10 * number + u128::from(*byte - b'0');
     }
     number
 }

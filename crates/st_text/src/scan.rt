@@ -40,6 +40,16 @@ pub fn is_digit_run(text: &[u8], low: usize, high: usize) -> bool
     are_digits(text) && low <= text.len() && text.len() <= high
 }
 
+/// Whether there are from `low` to `high` digits: the same test of a text that is known to be digits alone.
+#[tactic(auto, unfolding(crate::specs::Scan::is_digit_run))]
+pub fn has_length(digits: &[u8], low: usize, high: usize) -> bool
+    requires { IsTrue (bytes.are_digits digits.now) }
+    ensures run { IsTrue result ↔ IsDigitRun low high digits.now }
+    ensures exact { result ≡ scan.is_digit_run low high digits.now }
+{
+    low <= digits.len() && digits.len() <= high
+}
+
 /// How many digits a text begins with.
 fn count_digits(text: &[u8]) -> usize
     ensures value { result ≡ prefix_len is_ascii_digit text.now }
@@ -65,6 +75,8 @@ mod tests {
         assert!(rt; !is_digit_run(b"", 1, 2));
         assert!(rt; !is_digit_run(b"123", 1, 2));
         assert!(rt; !is_digit_run(b"1a", 1, 2));
+        assert!(rt; has_length(b"12", 1, 2));
+        assert!(rt; !has_length(b"123", 1, 2));
         Ok(())
     }
 }

