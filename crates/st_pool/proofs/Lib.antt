@@ -1,7 +1,7 @@
 mod Examples
-mod FoundLaws
 mod IndexLaws
 mod KindsLaws
+mod LastSetLaws
 mod PlaceLaws
 mod PlacesLaws
 mod StandingLaws

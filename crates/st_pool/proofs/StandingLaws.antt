@@ -1,6 +1,7 @@
 -- The assignments that stand at the places of a name are those of the name.
 use Rattle.std.proofs.Common.{◌≡◌, ◌≤◌, ◌↔◌, ℕ, zero, suc, ◌+◌, length, drop, map, filter, Bool, true, false, ◌||◌, cond, Option, Some, option_and_then, slice_get, List, [], ◌∷◌, ◌++◌, refl, sym, ap, ◌∙◌, arith}
-use Rattle.std.specs.List.{list_any, enumerate_from, cons_option}
+use Rattle.std.specs.List.{list_any, flat_map, enumerate_from, cons_option}
+use Rattle.std.proofs.lemmas.List.{length-append}
 use Rattle.std.proofs.lemmas.List.Elements.{filter-append, filter_map-append}
 use Rattle.std.proofs.lemmas.List.Folds.{list_any-append}
 use Rattle.std.proofs.lemmas.List.Sums.{sum_by-append, sum_by-cons}
@@ -13,7 +14,7 @@ use Rattle.st_pool.specs.IndexMachine.{assignment_at, assignments_at}
 use Rattle.st_pool.specs.Loaded.{all_assignments, value_count, loaded_count}
 use Rattle.st_pool.specs.Places.{places_in, loaded_places}
 use Rattle.st_pool.specs.PoolMachine.{values_by, kind_at}
-use Rattle.st_pool.specs.Variable.{is_of, is_text, is_number, kind_of_values, loaded_values, loaded_kind}
+use Rattle.st_pool.specs.Variable.{is_of, is_set, since_last_set, is_text, is_number, kind_of_values, loaded_values, loaded_kind}
 use Rattle.st_pool.proofs.PlacesLaws.{placed, numbered, standing}
 
 -- a list behind its n-th item
@@ -82,10 +83,30 @@ count-all (k ∷ more) =
     ∙ ap (λ (n : ℕ). value_count k.assignments + n) (count-all more)
     ∙ sym (sum_by-cons (λ (x : Kernel). value_count x.assignments) k more)
 
-pub at-most : (name : List ℕ) (kernels : List Kernel) (places : List Place) → places ≡ loaded_places name kernels
-    → value_count (assignments_at kernels places) ≤ loaded_count kernels
-at-most name kernels places e =
-    omega (arith, ap value_count (stand name kernels places e), few name (all_assignments kernels), count-all kernels)
+-- values are no more than those of the assignments that give them
+all-counted : (assignments : List Assignment) → length (flat_map (λ (x : Assignment). x.values) assignments) ≡ value_count assignments
+all-counted [] = refl
+all-counted (a ∷ more) =
+    length-append a.values (flat_map (λ (x : Assignment). x.values) more)
+    ∙ ap (λ (n : ℕ). length a.values + n) (all-counted more)
+    ∙ sym (sum_by-cons (λ (x : Assignment). length x.values) a more)
+
+few-since : (assignments : List Assignment) → length (values_by assignments) ≤ value_count assignments
+few-since [] = omega arith
+few-since (a ∷ more) = by (list_any is_set more) (few-since more)
+  where
+    whole : value_count (a ∷ more) ≡ length a.values + value_count more
+    whole = sum_by-cons (λ (x : Assignment). length x.values) a more
+
+    by : (b : Bool) → length (values_by more) ≤ value_count more
+        → length (flat_map (λ (x : Assignment). x.values) (cond b (since_last_set more) (a ∷ more))) ≤ value_count (a ∷ more)
+    by true h = omega (arith, h, whole)
+    by false h = omega (arith, whole, length-append a.values (flat_map (λ (x : Assignment). x.values) more), all-counted more)
+
+-- a variable has no more values than are loaded
+pub values-few : (name : List ℕ) (kernels : List Kernel) → length (loaded_values name kernels) ≤ loaded_count kernels
+values-few name kernels =
+    omega (arith, few-since (filter (is_of name) (all_assignments kernels)), few name (all_assignments kernels), count-all kernels)
 
 filled : {X : Type 0} → List X → Bool
 filled [] = false

@@ -1,12 +1,15 @@
 -- What the code of the pool does, on lists.
-use Rattle.std.specs.Prelude.{ℕ, ◌+◌, ◌-◌, true, ◌||◌, ltb, if◌then◌else◌, Option, Some, slice_get, List, [], ◌∷◌, length}
+use Rattle.std.specs.Prelude.{ℕ, ◌+◌, Bool, true, false, ◌||◌, if◌then◌else◌, Option, Some, List, [], ◌∷◌}
 use Rattle.std.specs.List.{flat_map, list_any}
+use Rattle.std.specs.Option.{option_map_or}
 use Rattle.st_kernel_text.specs.declared.assignment.Assignment.{Assignment}
 use Rattle.st_kernel_text.specs.declared.value.Value.{Value}
 use Rattle.st_pool.specs.declared.kernel.Kernel.{Kernel}
 use Rattle.st_pool.specs.declared.kind.Kind.{Kind}
 use Rattle.st_pool.specs.declared.kind.Kind.TheVariants.{Absent, Numbers, Texts, Mixed}
 use Rattle.st_pool.specs.declared.kinds.Kinds.{Kinds}
+use Rattle.st_pool.specs.declared.place.Place.{Place}
+use Rattle.st_pool.specs.IndexMachine.{assignment_at, assignments_at}
 use Rattle.st_pool.specs.Loaded.{is_named}
 use Rattle.st_pool.specs.Variable.{is_set, is_number, is_text, since_last_set, kind_of_values}
 
@@ -16,24 +19,20 @@ abbrev pub last_place : List ℕ → ℕ → Option ℕ → List Kernel → Opti
 last_place name i found [] = found
 last_place name i found (k ∷ more) = last_place name (i + 1) (if is_named name k then Some i else found) more
 
--- the value at place i of those before and these behind them
-abbrev pub value_at : ℕ → ℕ × Option Value → List Value → Option Value
-value_at i before values = if ltb i before.0 then before.1 else slice_get values (i - before.0)
-
 -- the values that these assignments of a variable give it
 abbrev pub values_by : List Assignment → List Value
 values_by assignments = flat_map (λ a. a.values) (since_last_set assignments)
 
--- the count of the values so far and the value at place i, after one more assignment
-abbrev pub found_after : ℕ → ℕ × Option Value → Assignment → ℕ × Option Value
-found_after i before a =
-    if is_set a then (length a.values, slice_get a.values i)
-    else (before.0 + length a.values, value_at i before a.values)
+-- whether the assignment at a place sets the values
+abbrev pub is_set_at : List Kernel → Place → Bool
+is_set_at kernels place = option_map_or is_set (assignment_at kernels place) false
 
--- the same after some more
-abbrev pub found_in : ℕ → ℕ × Option Value → List Assignment → ℕ × Option Value
-found_in i before [] = before
-found_in i before (a ∷ more) = found_in i (found_after i before a) more
+-- the values of the assignment at a place, and of those at some places
+abbrev pub values_at : List Kernel → Place → List Value
+values_at kernels place = option_map_or (λ a. a.values) (assignment_at kernels place) []
+
+abbrev pub values_in : List Kernel → List Place → List Value
+values_in kernels places = flat_map (λ a. a.values) (assignments_at kernels places)
 
 -- what is known of the kinds of the values so far, after one more assignment
 abbrev pub kinds_after : Kinds → Assignment → Kinds

@@ -6,10 +6,10 @@ ghost use Rattle.st_pool.specs.IndexMachine.{assignments_at};
 ghost use Rattle.st_pool.specs.Variable.{is_number, is_text};
 ghost use Rattle.st_pool.specs.PoolMachine as machine;
 
-use crate::found::assignment_at;
 use crate::kernel::Kernel;
 use crate::kind::Kind;
 use crate::place::Place;
+use crate::values::assignment_at;
 use st_kernel_text::{Assignment, Mode, Value};
 
 /// What is known of a variable by the assignments so far.

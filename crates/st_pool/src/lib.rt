@@ -3,7 +3,6 @@
 
 mod counts;
 mod fault;
-mod found;
 mod index;
 mod kernel;
 mod kind;
@@ -13,9 +12,11 @@ mod place;
 mod pool;
 #[cfg(test)]
 mod tests;
+mod values;
 
 pub use fault::{LoadFault, NotLoaded};
 pub use kernel::Kernel;
 pub use kind::Kind;
 pub use place::Place;
 pub use pool::Pool;
+pub use values::Values;

@@ -11,13 +11,13 @@ ghost use Rattle.st_pool.specs.declared.fault.LoadFault.TheVariants.{TooManyKern
 
 use crate::counts::{room_after, value_count};
 use crate::fault::{LoadFault, NotLoaded};
-use crate::found::find;
 use crate::index::Index;
 use crate::kernel::Kernel;
 use crate::kind::Kind;
 use crate::kinds::kind_of;
 use crate::last::last_place;
 use crate::place::Place;
+use crate::values::Values;
 use st_decimal::{KText, OutOfMemory};
 use st_kernel_text::{AssignmentList, Value};
 use std::alloc::Global;
@@ -155,7 +155,7 @@ impl Pool {
     pub fn count(&self, name: &[u8]) -> usize
         ensures { result ≡ length (loaded_values name.now self.now) }
     {
-        find(self.kernels.as_slice(), self.index.places(name), 0).count
+        self.values(name).count()
     }
 
     /// The value of a variable at a place, from 0; none from the count on.
@@ -163,7 +163,15 @@ impl Pool {
         ensures value { option_copied result ≡ slice_get (loaded_values name.now self.now) i }
         ensures none { IsNone result ↔ (length (loaded_values name.now self.now) ≤ i) }
     {
-        find(self.kernels.as_slice(), self.index.places(name), i).value
+        self.values(name).nth(i)
+    }
+
+    /// The values of a variable in order, in one walk over its assignments from the last `=` on.
+    pub fn values(&self, name: &[u8]) -> Values
+        ensures values { result ≡ loaded_values name.now self.now }
+        ensures few { length result ≤ most_values }
+    {
+        Values::new(self.kernels.as_slice(), self.index.places(name))
     }
 
     /// The places of all assignments of a variable, in order, as a slice that the pool keeps. It is
