@@ -14,3 +14,4 @@ pub mod RangeLaws
 pub mod Scans
 pub mod TimeCuts
 pub mod TimeForms
+pub mod WrittenDates

@@ -12,3 +12,4 @@ pub mod NamesMachine
 pub mod Range
 pub mod TimeText
 pub mod TimeTextMachine
+pub mod WrittenDate

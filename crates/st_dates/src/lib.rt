@@ -12,6 +12,7 @@ mod day_text;
 mod decimals;
 mod fault;
 mod label;
+pub mod laws;
 mod names;
 mod system;
 mod time_text;

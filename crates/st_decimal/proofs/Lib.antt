@@ -3,6 +3,7 @@ pub mod Accepts
 pub mod Answered
 pub mod FixedDecimals
 mod FixedExamples
+pub mod FixedReads
 mod NumberExamples
 pub mod PieceLaws
 pub mod Scaled

@@ -1,4 +1,5 @@
 pub mod Fixed
+pub mod Laws
 pub mod Limits
 pub mod Number
 pub mod NumberMachine

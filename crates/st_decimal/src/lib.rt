@@ -3,6 +3,7 @@
 #![tactic(auto)]
 
 mod fixed;
+pub mod laws;
 mod list;
 mod memory;
 mod number;
