@@ -5,7 +5,10 @@
 #![tactic(auto)]
 
 mod enclosure;
+mod interval;
+pub mod laws;
 mod rounding;
 
 pub use enclosure::Enc;
+pub use interval::Interval;
 pub use rounding::UNIT;

@@ -16,3 +16,4 @@ pub mod OneAnswer
 pub mod TextLaws
 pub mod DefaultLaws
 pub mod HasTexts
+pub mod PlainTexts

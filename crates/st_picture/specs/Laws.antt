@@ -1,11 +1,13 @@
 -- What the definitions of cells and pictures say by themselves, as laws.
-use Rattle.std.specs.Prelude.{◌≡◌, ◌≢◌, ◌↔◌, ℕ, ◌^◌, ℤ, pos, neg_ℤ, ◌+ℤ◌, ◌*ℤ◌, Bool, List, Option, Result, Ok}
+use Rattle.std.specs.Prelude.{◌≡◌, ◌≢◌, ◌↔◌, ℕ, ◌^◌, ℤ, pos, neg_ℤ, ◌+ℤ◌, ◌*ℤ◌, Bool, List, Option, Result, Ok, Err}
+use Rattle.std.specs.List.{All}
 use Rattle.st_dates.specs.declared.system.System.{System}
 use Rattle.st_dates.specs.declared.system.System.TheVariants.{Utc}
 use Rattle.st_picture.specs.Mark.{IsCut}
 use Rattle.st_picture.specs.Picture.{Picture}
-use Rattle.st_picture.specs.Reading.{Agree, ReadsPicture}
+use Rattle.st_picture.specs.Reading.{Agree, IsPlainByte, ReadsPicture}
 use Rattle.st_picture.specs.declared.fault.PictureFault.{PictureFault}
+use Rattle.st_picture.specs.declared.fault.PictureFault.TheVariants.{OutOfMemory}
 use Rattle.st_picture.specs.declared.mark.Piece.{Piece}
 use Rattle.st_fraction.specs.Fraction.{Fraction, IsFraction, ◌≤ᶠ◌, ◌<ᶠ◌, ◌≈ᶠ◌, whole, units}
 use Rattle.st_leaps.specs.Label.{AreCounts}
@@ -110,3 +112,13 @@ abbrev pub SecondsTexts : Type 0
 SecondsTexts =
     (system : System) (picture : Picture) (leaps : Option LeapTable) (v : Fraction) (text : List ℕ) → ReadsPicture system seconds_picture (Ok picture)
     → HasText picture leaps v text ↔ HasSecondsText v text
+
+-- Each text has an answer as a picture for a system, other than want of memory.
+abbrev pub EachHasReading : Type 0
+EachHasReading = (system : System) (text : List ℕ) → (answer : Result Picture PictureFault) × ReadsPicture system text answer × (answer ≢ Err OutOfMemory)
+
+-- What a picture prints has bytes from the space to `~` alone.
+abbrev pub TextsArePlain : Type 0
+TextsArePlain =
+    (system : System) (text : List ℕ) (picture : Picture) (cell : Cell) (printed : List ℕ) → ReadsPicture system text (Ok picture)
+    → IsTextOf picture.pieces cell printed → All IsPlainByte printed

@@ -1,7 +1,7 @@
 //! Laws of the definitions by which cells and pictures are told. Each function does nothing; its
 //! contract is the law.
 
-ghost use Rattle.st_picture.specs.Laws.{CalendarCells, CalendarTexts, CellBetween, CellOfFloor, CellsAreOfUnit, CellsNeverFall, DefaultsAreRead, EachHasCell, EachHasCut, EachHasText, HalvesAreUnits, OneCell, OneCut, OneReading, OneText, OneTextOfValue, SecondsTexts};
+ghost use Rattle.st_picture.specs.Laws.{CalendarCells, CalendarTexts, CellBetween, CellOfFloor, CellsAreOfUnit, CellsNeverFall, DefaultsAreRead, EachHasCell, EachHasCut, EachHasReading, EachHasText, HalvesAreUnits, OneCell, OneCut, OneReading, OneText, OneTextOfValue, SecondsTexts, TextsArePlain};
 
 /// Each value from the year 4 on has a cell, whatever fraction of a second it is.
 pub fn each_has_cell()
@@ -86,4 +86,14 @@ pub fn calendar_texts()
 /// `SP2000.######` prints of a value its microseconds, truncated downwards, and nothing else.
 pub fn seconds_texts()
     ensures { SecondsTexts }
+{}
+
+/// Each text has an answer as a picture for a system.
+pub fn each_has_reading()
+    ensures { EachHasReading }
+{}
+
+/// The texts of pictures have bytes from the space to `~` alone.
+pub fn texts_are_plain()
+    ensures { TextsArePlain }
 {}
