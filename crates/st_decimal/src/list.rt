@@ -47,6 +47,13 @@ impl<T: Drop> List<T> {
         List { items }
     }
 
+    /// The items as a vector, which aren't copied.
+    pub fn into_vec(self) -> Vec<T>
+        ensures { result.items ≡ self }
+    {
+        self.items
+    }
+
     /// Appends one item, which is dropped where memory is refused.
     ///
     /// # Errors
@@ -165,6 +172,7 @@ mod tests {
         assert_eq!(rt; list.len(), 0);
         let copied = Line::from_slice(rt.alloc(), b"xy")?;
         assert_eq!(rt; copied.as_slice(), b"xy".as_slice());
+        assert_eq!(rt; copied.into_vec().as_slice(), b"xy".as_slice());
         let mut bytes = Vec::new(rt.alloc());
         bytes.push(b'z')?;
         assert_eq!(rt; Line::from_vec(bytes).as_slice(), b"z".as_slice());

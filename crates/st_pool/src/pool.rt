@@ -1,6 +1,7 @@
 //! The loaded kernels.
 
 ghost use Rattle.std.specs.Prelude.{◌≡◌, ◌≤◌, ◌<◌, ◌+◌, ◌↔◌, ℕ, List, [], ◌∷◌, ◌++◌, Ok, Err, length, slice_get, IsNone, IfSome, IsErr, Some, true, false, OnOk, OnErr, option_copied};
+ghost use Rattle.std.specs.List.{remove};
 ghost use Rattle.st_pool.specs.Limits.{most_kernels, most_values};
 ghost use Rattle.st_pool.specs.Loaded.{value_count, loaded_count, is_loaded, without_last};
 ghost use Rattle.st_pool.specs.Variable.{loaded_values, loaded_kind};
@@ -112,10 +113,18 @@ impl Pool {
         let Some(place) = last_place(self.kernels.as_slice(), name) else {
             return Err(NotLoaded);
         };
-        let kernel = self.kernels.remove(place);
-        self.index.take_out(place as u32);
-        self.room += value_count(kernel.assignments.as_slice());
+        self.remove_at(place);
         Ok(())
+    }
+
+    /// Takes the kernel at a place of the order of loading, from 0, out of the loaded list. The others stay in order.
+    pub fn remove_at(&mut self, i: usize)
+        requires { i < length self.old }
+        ensures { self.new ≡ remove self.old i }
+    {
+        let kernel = self.kernels.remove(i);
+        self.index.take_out(i as u32);
+        self.room += value_count(kernel.assignments.as_slice());
     }
 
     /// Unloads all kernels.
