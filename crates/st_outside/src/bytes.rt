@@ -21,18 +21,25 @@ impl Model for Bytes {
 }
 
 impl Bytes {
+    /// The bytes of a vector, which aren't copied.
     pub fn from_vec(items: Vec<u8>) -> Bytes
         ensures { result ≡ items.items }
     {
         Bytes { items }
     }
 
+    /// A copy of some bytes.
+    ///
+    /// # Errors
+    ///
+    /// `OutOfMemory`.
     pub fn from_slice(alloc: Global, bytes: &[u8]) -> Result<Bytes, OutOfMemory>
         ensures { IfOk result (λ copy. copy ≡ bytes.now) }
     {
         Ok(Bytes::from_vec(Vec::from_slice(alloc, bytes)?))
     }
 
+    /// All bytes, in order.
     pub fn as_slice(&self) -> &[u8]
         ensures { result.now ≡ self.now }
     {

@@ -7,7 +7,7 @@ use Rattle.st_text.specs.Laws.{LastLine, LineEnds, NoLine}
 use Rattle.st_text.specs.Lines.{HasNoFeed, lines_of, without_cr}
 use Rattle.st_text.proofs.Splits.{raw_lines-at, raw_lines-none, lines_of-first, lines_of-nil}
 
--- the place of the line feed behind a text that has none
+-- the place of the line feed after a text that has none
 feed_behind : (line rest : List ℕ) → HasNoFeed line → position_or_len (λ b. b == 10) (line ++ (10 ∷ rest)) ≡ length line
 feed_behind [] rest h = refl
 feed_behind (b ∷ bs) rest h = by (b == 10) h (feed_behind bs rest)

@@ -63,7 +63,7 @@ behind_stops p (b ∷ t) =
       | inr h ↦ rw h h
     ]
 
--- the cut stands behind a run that passes, before a text that stops
+-- the cut stands after a run that passes, before a text that stops
 pub leading-at : (p : ℕ → Bool) (a r : List ℕ) → list_all p a ≡ true → Stops p r → leading p (a ++ r) ≡ a
 leading-at p [] r h s = leading-fail p r s
 leading-at p (b ∷ a) r h s =
@@ -95,7 +95,7 @@ behind-drop p (b ∷ t) =
       | inr h ↦ rw h refl
     ]
 
--- what the code keeps behind a cut
+-- what the code keeps after a cut
 pub rest : (t : List ℕ) (n : ℕ) → take (length t - n) (drop n t) ≡ drop n t
 rest t n = take_rest t n
 
@@ -126,7 +126,7 @@ digits_at low high text rest h s = leading-at is_ascii_digit text rest h.digits 
 pub past_at : (low high : ℕ) (text rest : List ℕ) → IsDigitRun low high text → Stops is_ascii_digit rest → past_digits (text ++ rest) ≡ rest
 past_at low high text rest h s = behind-at is_ascii_digit text rest h.digits s
 
--- what is behind a byte
+-- what is after a byte
 pub after_byte : (byte : ℕ) (t : List ℕ) → after byte (byte ∷ t) ≡ Some t
 unfolding after
 after_byte byte t = rw (eq-eqb byte byte refl) refl

@@ -7,7 +7,7 @@ use Rattle.st_text.specs.Lines.{HasNoFeed, lines_of, without_cr}
 abbrev pub NoLine : Type 0
 NoLine = lines_of [] ≡ []
 
--- What stands before the first LF is the first line, and the others are those of what stands behind it.
+-- What stands before the first LF is the first line, and the others are those of what stands after it.
 abbrev pub LineEnds : Type 0
 LineEnds = (line rest : List ℕ) → HasNoFeed line → lines_of (line ++ (line_feed ∷ rest)) ≡ without_cr line ∷ lines_of rest
 

@@ -25,7 +25,7 @@ leading_digits text = leading is_ascii_digit text
 abbrev pub past_digits : List ℕ → List ℕ
 past_digits text = behind is_ascii_digit text
 
--- what stands behind a byte with which the text begins
+-- what stands after a byte with which the text begins
 unfoldable pub after : ℕ → List ℕ → Option (List ℕ)
 after byte [] = None
 after byte (b ∷ t) = if b == byte then Some t else None

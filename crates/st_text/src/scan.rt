@@ -1,4 +1,4 @@
-//! Parts with which a text begins, and what stands behind them.
+//! Parts with which a text begins, and what stands after them.
 
 ghost use Rattle.std.specs.Prelude.{◌≡◌, ◌≤◌, ◌↔◌, length, IsTrue, option_copied};
 ghost use Rattle.std.specs.Char.{is_ascii_digit};
@@ -20,7 +20,7 @@ pub fn split_digits(text: &[u8]) -> (&[u8], &[u8])
     (&text[..end], &text[end..])
 }
 
-/// What stands behind a byte with which a text begins; none where it begins with another byte.
+/// What stands after a byte with which a text begins; none where it begins with another byte.
 #[tactic(auto, unfolding(crate::specs::Scan::after))]
 pub fn after(text: &[u8], byte: u8) -> Option<&[u8]>
     ensures { option_copied result ≡ scan.after byte text.now }
