@@ -1,4 +1,4 @@
--- The bytes of a number, read byte by byte from a place on: whether a number may end behind them.
+-- The bytes of a number, read byte by byte from a place on: whether a number may end after them.
 use Rattle.std.proofs.Common.{◌≡◌, ℕ, Bool, true, false, List, [], ◌∷◌, ◌++◌, Option, Some, None, refl, ◌∙◌, ap, arith}
 use Rattle.std.proofs.lemmas.Bool.Decides.{nat_tests}
 use Rattle.std.specs.Char.{is_ascii_digit}

@@ -8,7 +8,7 @@ use Rattle.std.proofs.Math.Nat.{one-le-pow}
 pub power_some : (k : ℕ) → 0 < 10 ^ k
 power_some k = omega (arith, one-le-pow k 10 (omega arith))
 
--- behind the point stand exactly as many digits as there are places
+-- after the point stand exactly as many digits as there are places
 pub places_behind : (places n : ℕ) → length (padded places (n % 10 ^ places)) ≡ places
 places_behind places n = length-padded places (n % 10 ^ places) (omega (arith, power_some places))
 

@@ -11,7 +11,7 @@ use Rattle.st_decimal.proofs.ZeroDigits.{same_cons}
 use Rattle.st_decimal.proofs.ValueCode.{both_true}
 use Rattle.st_decimal.proofs.Accepts.{accepts, accepts-none, IsOf, is_of_kind}
 
--- what may stand behind a place, up to the end of the number
+-- what may stand after a place, up to the end of the number
 abbrev Tail : Place → List ℕ → Type 0
 Tail Start t = IsNumber t
 Tail Signed t =

@@ -17,7 +17,7 @@ not_both p q = let e : true ≡ false = sym p ∙ q in cc
 zero_byte_accepted : (q : Place) → ends_at (on_digit q) ≡ true → accepts (Some q) (48 ∷ []) ≡ true
 zero_byte_accepted q h = digit_step q 48 [] refl ∙ h
 
--- bytes that make a number behind each place
+-- bytes that make a number after each place
 completion : (q : Place) → (rest : List ℕ) × (accepts (Some q) rest ≡ true)
 completion Start = (48 ∷ [], zero_byte_accepted Start refl)
 completion Signed = (48 ∷ [], zero_byte_accepted Signed refl)

@@ -8,7 +8,7 @@ abbrev pub sign : ℤ → List ℕ
 sign (pos n) = []
 sign (negsuc n) = dash ∷ []
 
--- the point and the decimals behind it, and neither for no places
+-- the point and the decimals after it, and neither for no places
 abbrev pub decimals : ℕ → ℕ → List ℕ
 decimals places n = if places == 0 then [] else point ∷ padded places n
 

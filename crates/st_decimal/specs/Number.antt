@@ -1,5 +1,5 @@
 -- The numbers of text kernels, after NAIF's Kernel Required Reading: an optional
--- sign, digits with an optional point, and an optional exponent behind `E`, `e`, `D` or `d`. The
+-- sign, digits with an optional point, and an optional exponent after `E`, `e`, `D` or `d`. The
 -- parts are the bytes as they stand in the text.
 use Rattle.std.specs.Prelude.{◌≡◌, ℕ, ◌+◌, ◌<◌, ◌≤◌, Bool, List, [], ◌∷◌, ◌++◌, length, take, Option, Some, None, ◌==◌, ◌||◌, IsTrue, ⊤}
 use Rattle.st_text.specs.Ascii.{plus, dash, point}
@@ -21,7 +21,7 @@ pub record Exponent : Type 0 where
 pub record Parts : Type 0 where
   pub sign : List ℕ
   pub whole : List ℕ
-  -- the digits behind the point, where there is a point
+  -- the digits after the point, where there is a point
   pub decimals : Option (List ℕ)
   pub exponent : Option Exponent
 
@@ -57,7 +57,7 @@ abbrev pub IsOptionalExponent : Option Exponent → Type 0
 IsOptionalExponent None = ⊤
 IsOptionalExponent (Some e) = IsExponent e
 
--- at least one digit stands before or behind the point
+-- at least one digit stands before or after the point
 pub record AreParts (p : Parts) : Type 0 where
   pub sign : IsOptionalSign p.sign
   pub whole : IsTrue (are_digits p.whole)

@@ -44,7 +44,7 @@ on_mark Whole = Some Marked
 on_mark Decimals = Some Marked
 on_mark _ = None
 
--- the place behind a byte, where it may follow
+-- the place after a byte, where it may follow
 abbrev pub next_of : Place → Kind → Option Place
 next_of place Digit = on_digit place
 next_of place Sign = on_sign place
@@ -70,7 +70,7 @@ abbrev pub behind_sign : List ℕ → List ℕ
 behind_sign [] = []
 behind_sign (b ∷ bs) = if is_sign b then bs else b ∷ bs
 
--- the digits behind a point, and what follows them
+-- the digits after a point, and what follows them
 abbrev pub decimals_in : List ℕ → List ℕ
 decimals_in [] = []
 decimals_in (b ∷ bs) = if b == 46 then leading_digits bs else []

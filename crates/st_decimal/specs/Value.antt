@@ -48,7 +48,7 @@ abbrev pub signed : Bool → ℕ → ℤ
 signed true n = neg_ℤ (pos n)
 signed false n = pos n
 
--- the number behind the mark, and its magnitude; 0 where there is no exponent
+-- the number after the mark, and its magnitude; 0 where there is no exponent
 abbrev pub exponent_of : Option Exponent → ℤ
 exponent_of None = pos 0
 exponent_of (Some e) = signed (is_minus e.sign) (number_of e.digits)

@@ -13,7 +13,7 @@ pub struct Pieces<'a> {
     pub negative: bool,
     /// The digits before the point.
     pub whole: &'a [u8],
-    /// The digits behind the point.
+    /// The digits after the point.
     pub decimals: &'a [u8],
     pub exponent_negative: bool,
     /// The digits of the exponent, none where there is no exponent.
@@ -61,7 +61,7 @@ fn behind_sign(text: &[u8]) -> &[u8]
     }
 }
 
-/// The digits behind the point at the beginning of a text, and what follows them.
+/// The digits after the point at the beginning of a text, and what follows them.
 fn split_decimals(text: &[u8]) -> (&[u8], &[u8])
     ensures digits { result.0.now ≡ machine.decimals_in text.now }
     ensures rest { result.1.now ≡ machine.behind_decimals text.now }

@@ -43,7 +43,7 @@ fn classify(byte: u8) -> Kind
     }
 }
 
-/// The place behind a byte, where it may follow.
+/// The place after a byte, where it may follow.
 fn next(place: Place, kind: Kind) -> Option<Place>
     ensures { result ≡ next_of place kind }
 {
@@ -67,7 +67,7 @@ fn next(place: Place, kind: Kind) -> Option<Place>
     }
 }
 
-/// The place behind a digit, which may follow everywhere.
+/// The place after a digit, which may follow everywhere.
 fn behind_digit(place: Place) -> Place
     ensures { Some result ≡ on_digit place }
 {

@@ -13,7 +13,7 @@ use crate::place::number_stop;
 use crate::value::value;
 
 /// Reads a number: an optional sign, digits with an optional point, or a point and at least one
-/// digit, and an optional exponent behind `E`, `e`, `D` or `d`. The text has at most 1,000 bytes.
+/// digit, and an optional exponent after `E`, `e`, `D` or `d`. The text has at most 1,000 bytes.
 ///
 /// Source: NAIF's Kernel Required Reading.
 ///

@@ -1,9 +1,9 @@
-//! The significant digits of a number that is written in two pieces, before and behind the point.
+//! The significant digits of a number that is written in two pieces, before and after the point.
 
 ghost use Rattle.std.specs.Prelude.{◌≡◌, ◌≤◌, ◌++◌, length};
 ghost use Rattle.st_decimal.specs.Value as value;
 
-/// The digits before the point and behind it, up to the last of them that is not zero.
+/// The digits before the point and after it, up to the last of them that is not zero.
 pub fn without_end_zeros<'a>(whole: &'a [u8], decimals: &'a [u8]) -> (&'a [u8], &'a [u8])
     ensures { result.0.now ++ result.1.now ≡ value.without_end_zeros (whole.now ++ decimals.now) }
 {
@@ -14,7 +14,7 @@ pub fn without_end_zeros<'a>(whole: &'a [u8], decimals: &'a [u8]) -> (&'a [u8], 
     }
 }
 
-/// The digits before the point and behind it, from the first of them on that is not zero.
+/// The digits before the point and after it, from the first of them on that is not zero.
 pub fn skip_zeros<'a>(whole: &'a [u8], decimals: &'a [u8]) -> (&'a [u8], &'a [u8])
     ensures { result.0.now ++ result.1.now ≡ value.skip_zeros (whole.now ++ decimals.now) }
 {
