@@ -43,7 +43,7 @@ none-skipped (b ∷ t) h = grind (arith, common_steps, and-left (is_no_blank b) 
 kept : (t : List ℕ) → list_all is_no_blank t ≡ true → trimmed t ≡ t
 kept t h = ap without_end_blanks (none-skipped t h) ∙ all-kept t h
 
--- the parts of the text: its sign, the digits before the point and those behind it
+-- the parts of the text: its sign, the digits before the point and those after it
 places-of : ℕ → ℕ → Option (List ℕ)
 places-of zero m = None
 places-of (suc p) m = Some (padded (suc p) m)
@@ -60,7 +60,7 @@ some-places p = grind (arith, nat_tests)
 decimals-some : (p m : ℕ) → decimals (suc p) m ≡ 46 ∷ padded (suc p) m
 decimals-some p m = rw (some-places p) refl
 
--- what stands behind the digits before the point
+-- what stands after the digits before the point
 behind-is : (places m : ℕ) → pointed (places-of places m) ≡ decimals places m
 unfolding places-of
 behind-is zero m = refl

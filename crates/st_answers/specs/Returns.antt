@@ -53,7 +53,7 @@ pub record TellsInRange (places : ℕ) (text : List ℕ) : Type 0 where
   pub spelled : text ≡ fixed number places
   pub in_range : IsInRange (printed places number)
 
--- the answer is the printed time, and behind it the canonical spelling of the tick k
+-- the answer is the printed time, and after it the canonical spelling of the tick k
 abbrev pub IsReturned : Clock → ℕ → List ℕ → Result (List ℕ) AnswerFault → Type 0
 IsReturned clock k there answer =
     (back : List ℕ) × IsCanonical clock.face k back × (answer ≡ Ok (there_and_back there back))

@@ -114,7 +114,7 @@ fn way_back(
     forward(alloc, &back, kernels, text)
 }
 
-/// The text of one way, and behind it that of the way back.
+/// The text of one way, and after it that of the way back.
 fn join(alloc: Global, there: &[u8], back: &[u8]) -> Result<Line, OutOfMemory>
     ensures { IfOk result (λ said. said ≡ there_and_back there.now back.now) }
 {

@@ -13,7 +13,7 @@ pub fn each_text_has_answer()
     ensures { EachTextHasAnswer }
 {}
 
-/// Whatever stands on the way, a text has at most one answer that isn't left undecided, with the way back behind it where that
+/// Whatever stands on the way, a text has at most one answer that isn't left undecided, with the way back after it where that
 /// is asked for.
 pub fn one_decided_answer()
     ensures { OneDecidedAnswer }

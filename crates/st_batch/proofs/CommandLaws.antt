@@ -1,4 +1,4 @@
--- The commands: the name behind a word, and that a text is one command at most.
+-- The commands: the name after a word, and that a text is one command at most.
 use Rattle.std.proofs.Common.{◌≡◌, ◌&&◌, ℕ, ◌<◌, ◌≤◌, ◌⊎◌, inl, inr, Bool, true, false, ◌||◌, eqb, get_or, List, [], ◌∷◌, ◌++◌, length, take, drop, codes, refl, sym, ap, ◌∙◌, subst, arith, length-append}
 use Rattle.std.proofs.Math.Seq.{take-append_seam, drop-append_seam}
 use Rattle.std.proofs.lemmas.Bool.{cases_Bool, cases_lt, false≢true}
@@ -52,7 +52,7 @@ skips (b ∷ text) =
       | inr n ↦ record { blanks = []; spelled = rw n refl; blank = refl; behind = rw n (rw n refl) }
     ]
 
--- the name is what stands behind the word and its blanks
+-- the name is what stands after the word and its blanks
 pub behind-word : (word text behind name : List ℕ) → text ≡ word ++ behind → NamesFile word text name → (skip_blanks behind ≡ name) × (length name < length behind)
 behind-word word text behind name e h =
     let same : behind ≡ h.blanks ++ name =
@@ -98,7 +98,7 @@ named-is word text behind read name e same h =
     let P : List ℕ → Type 0 = λ n. length n < length behind in
     (subst IsFileName is h.is_name, subst P is b.1)
 
--- a text names one name behind a word
+-- a text names one name after a word
 pub read-name : (word text name : List ℕ) → NamesFile word text name → skip_blanks (drop (length word) text) ≡ name
 read-name word text name h =
     ap (λ (t : List ℕ). skip_blanks (drop (length word) t)) h.spelled ∙ ap skip_blanks (drop-append_seam word (h.blanks ++ name)) ∙ skip-front h.blanks name h.blank ∙ h.behind
@@ -137,7 +137,7 @@ not-loaded name (kernel ∷ more) none =
     let rest = or-right (is_named name kernel) (is_loaded name more) none in
     rw rest (rw first refl)
 
--- whether bytes may be a file's name, and which name a text has behind a word, can be told
+-- whether bytes may be a file's name, and which name a text has after a word, can be told
 told-file-name : (name : List ℕ) → IsFileName name ⊎ (IsFileName name → ⊥)
 told-file-name name =
     elim (cases_lt (length name) 1) [

@@ -52,7 +52,7 @@ cut_at text i h =
     let cut = cut_first text (ltb-true _ _ parts.0) in
     rw (take_rest text (i + 1)) (subst (λ (n : ℕ). CutsAtFeed text (take n text) (drop (n + 1) text)) parts.1 cut)
 
--- a text whose first line feed would stand behind it has none
+-- a text whose first line feed would stand after it has none
 no_feed_within : (text : List ℕ) → length text ≤ position_or_len (λ b. b == 10) text → HasNoFeed text
 no_feed_within [] h = refl
 no_feed_within (b ∷ bs) h = by (b == 10) h (no_feed_within bs)
@@ -103,7 +103,7 @@ pub ends-longer : (a s t : List ℕ) (xs : List (List ℕ)) → EndsLines a s xs
 ends-longer a s t xs p = λ later.
     ((p (t ++ later)).0, ap (λ (l : List ℕ). lines_of (a ++ l)) (append_assoc s t later) ∙ (p (t ++ later)).1)
 
--- a text that is cut into lines, and one behind it, end the lines of both
+-- a text that is cut into lines, and one after it, end the lines of both
 pub ends-join : (a b s t : List ℕ) (xs ys : List (List ℕ)) → Cuts a s xs b → EndsLines b t ys → EndsLines a (s ++ t) (xs ++ ys)
 ends-join a b s t xs ys p q = λ later.
     let rest = q later in (
@@ -114,7 +114,7 @@ ends-join a b s t xs ys p q = λ later.
           ∙ sym (append_assoc xs ys rest.0),
     )
 
--- lists that are one with an element behind them are one
+-- lists that are one with an element after them are one
 unsnoc : (xs ys : List (List ℕ)) (x y : List ℕ) → xs ++ (x ∷ []) ≡ ys ++ (y ∷ []) → xs ≡ ys
 unsnoc xs ys x y e =
     let long : length xs ≡ length ys = omega (arith, ap length e, length-append xs (x ∷ []), length-append ys (y ∷ [])) in
@@ -124,7 +124,7 @@ unsnoc xs ys x y e =
 line-alone : (begun : List ℕ) → HasNoFeed begun → lines_of (begun ++ (10 ∷ [])) ≡ without_cr begun ∷ []
 line-alone begun h = line-ends begun [] h ∙ ap (λ (l : List (List ℕ)). without_cr begun ∷ l) no-line
 
--- what was read of an input ends one list of lines: a line feed behind it ends the one that has begun, and no more
+-- what was read of an input ends one list of lines: a line feed after it ends the one that has begun, and no more
 pub one-ending : OneEnding
 one-ending input left lines other p q =
     let same : p.read ≡ q.read = append_cancel_right p.read q.read left (sym p.consumed ∙ q.consumed) in

@@ -31,7 +31,7 @@ ascii : (b : ℕ) (bs : List ℕ) → b < 128 → IsAscii bs → IsAscii (b ∷ 
 ascii b bs h k zero = h
 ascii b bs h k (suc i) = k i
 
--- the name of `$load` stands behind all blanks
+-- the name of `$load` stands after all blanks
 load_names : IsLoad (codes "$load  a b") (codes "a b")
 load_names = record {
   blanks = 32 ∷ 32 ∷ [];

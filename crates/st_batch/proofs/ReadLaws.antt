@@ -69,7 +69,7 @@ reads-join a b c x y z s t p q = record {
   no_feed = q.no_feed;
 }
 
--- the answering stopped in a text behind one whose lines were answered
+-- the answering stopped in a text after one whose lines were answered
 pub halts-after : (a b : Moment) (now : FilesState) (taken : Option (List ℕ)) (x y s t : List ℕ)
     → ReadsText a b x s y → StopsInText b now taken y t → StopsInText a now taken x (s ++ t)
 halts-after a b now taken x y s t p q = record {
@@ -125,7 +125,7 @@ part-last counts now before taken then a b c x y z piece rest p none e writes =
     subst (λ (l : List ℕ). ReadsText from last x piece l) (sym e)
     (subst (λ (l : List ℕ). ReadsText from last x l (y ++ rest)) (sym p.whole) (reads-join from to last x y (y ++ rest) p.seen rest p.read tail))
 
--- a fault of the output stopped the writing behind the lines of a piece
+-- a fault of the output stopped the writing after the lines of a piece
 pub halts-last : (a b : Moment) (taken : Option (List ℕ)) (x y piece rest : List ℕ)
     → ReadsPart a b x piece rest y → TakesPrefix b.taken taken b.answering.gathered.items → StopsInText a b.files taken x piece
 halts-last a b taken x y piece rest p cut =
@@ -136,7 +136,7 @@ halts-last a b taken x y piece rest p cut =
       stopped = stops-cut a b b.files taken p.read.lines p.read.advanced (AreLater-same b.files.counts) cut;
     }))
 
--- something else stopped the answering behind the lines of a piece
+-- something else stopped the answering after the lines of a piece
 pub halts-behind : (a b : Moment) (x y piece rest : List ℕ) → ReadsPart a b x piece rest y → StopsInText a b.files b.taken x piece
 halts-behind a b x y piece rest p =
     subst (λ (l : List ℕ). StopsInText a b.files b.taken x l) (sym p.whole)

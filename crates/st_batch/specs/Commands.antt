@@ -19,7 +19,7 @@ pub record IsFileName (name : List ℕ) : Type 0 where
   pub short : length name ≤ most_file_name_bytes
   pub utf8 : IsUtf8 name
 
--- the text is a word, some blanks, and a name, which begins behind the last of them
+-- the text is a word, some blanks, and a name, which begins after the last of them
 pub record NamesFile (word text name : List ℕ) : Type 0 where
   pub blanks : List ℕ
   pub spelled : text ≡ word ++ (blanks ++ name)

@@ -109,7 +109,7 @@ FinishesWriting before now answering WriteFault = TakesPrefix before now answeri
 FinishesWriting before now answering OutOfMemory = TakesPrefix before now answering.gathered.items
 FinishesWriting before now answering status = ⊥
 
--- the bytes up to the first line feed, and those behind it
+-- the bytes up to the first line feed, and those after it
 pub record CutsAtFeed (text end behind : List ℕ) : Type 0 where
   pub whole : text ≡ end ++ (10 ∷ behind)
   pub no_feed : HasNoFeed end

@@ -1,4 +1,4 @@
--- A clock string comes back behind its time: what a line of a run may be answered with `-back`, as laws.
+-- A clock string comes back after its time: what a line of a run may be answered with `-back`, as laws.
 use Rattle.std.specs.Prelude.{◌≡◌, ◌↔◌, ◌⊎◌, ℕ, ◌≤◌, List, ◌∷◌, ◌++◌, length, Ok}
 use Rattle.st_text.specs.Lines.{trimmed}
 use Rattle.st_answers.specs.Answer.{ForwardGives, there_and_back}
@@ -16,7 +16,7 @@ use Rattle.st_batch.specs.Outcome.{AllAnswered, Outside, over}
 use Rattle.st_batch.specs.Session.{MayAnswer, RunsTo}
 use Rattle.st_batch.specs.Setting.{Loaded, Setting}
 
--- the answer is the printed time, and behind it the canonical spelling of the tick k
+-- the answer is the printed time, and after it the canonical spelling of the tick k
 abbrev pub TellsTick : Clock → ℕ → List ℕ → Answer → Type 0
 TellsTick clock k there answer = (back : List ℕ) × IsCanonical clock.face k back × (answer ≡ Text (there_and_back there back))
 

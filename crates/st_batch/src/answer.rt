@@ -41,7 +41,7 @@ pub fn put_answer(out: &mut Vec<u8>, answer: &Answer) -> Result<(), OutOfMemory>
     Ok(())
 }
 
-/// Appends a line that names a refusal behind some words.
+/// Appends a line that names a refusal after some words.
 pub fn put_refused(out: &mut Vec<u8>, words: &[u8], fault: &LineFault) -> Result<(), OutOfMemory>
     requires { fault.now ≢ LineFault.OutOfMemory }
     ensures { OnOk result (out.new.items ≡ out.old.items ++ (words.now ++ (refusal_text fault.now ++ (10 ∷ [])))) }

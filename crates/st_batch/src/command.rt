@@ -105,7 +105,7 @@ fn clear_all(alloc: Global, kernels: &mut Kernels) -> Result<Answer, OutOfMemory
     Ok(answer)
 }
 
-/// The name behind a command's word and at least one blank.
+/// The name after a command's word and at least one blank.
 fn name_behind<'a>(word: &[u8], text: &'a [u8]) -> Option<&'a [u8]>
     ensures some { IfSome result (λ name. NamesFile word.now text.now name.now) }
     ensures none { IsNone result → (name : List ℕ) → NamesFile word.now text.now name → ⊥ }

@@ -162,7 +162,7 @@ fn finish<O: Sink>(answering: &mut Answering, out: &mut O) -> Status
     }
 }
 
-/// Answers the lines that end in this piece and writes their answers. What stands behind the last of them begins the
+/// Answers the lines that end in this piece and writes their answers. What stands after the last of them begins the
 /// next line.
 fn answer_piece<F: Files, O: Sink>(
     answering: &mut Answering,
@@ -191,7 +191,7 @@ fn answer_piece<F: Files, O: Sink>(
     answering.write(out)
 }
 
-/// The bytes before the first line feed, and those behind it.
+/// The bytes before the first line feed, and those after it.
 fn ended_line(text: &[u8]) -> Option<(&[u8], &[u8])>
     ensures { MatchOption result (HasNoFeed text.now) (λ parts. CutsAtFeed text.now parts.0.now parts.1.now) }
 {

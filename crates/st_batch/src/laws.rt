@@ -80,7 +80,7 @@ pub fn one_output()
     ensures { OneOutput }
 {}
 
-/// A clock string comes back behind its time: a line whose text is read to a covered tick that lasts at least four units of the
+/// A clock string comes back after its time: a line whose text is read to a covered tick that lasts at least four units of the
 /// last printed place is answered by the printed time and the tick's canonical spelling, or UNDECIDED where the way there can
 /// be, where that time is a number in the range; and of a clock that is kept in TDB by the first alone.
 pub fn covered_line_returns()

@@ -22,7 +22,7 @@ pub const MAX_FILE: usize = 16_777_216;
 /// How many bytes of a file are read at a time.
 const PIECE: usize = 4096;
 
-/// Loads the file of this name behind all loaded kernels. No file is open afterwards.
+/// Loads the file of this name after all loaded kernels. No file is open afterwards.
 ///
 /// # Errors
 ///

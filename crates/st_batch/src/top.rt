@@ -23,7 +23,7 @@ use std::alloc::Global;
 
 /// Does all that the program does: reads the words, loads the setup, answers the lines and writes the answers.
 ///
-/// The words are those behind the program's name. The lines are the one of the words, those of the input, or those of a
+/// The words are those after the program's name. The lines are the one of the words, those of the input, or those of a
 /// sample, whose answers are summed up. All answers are written before the input is read again. No file that was opened
 /// stays open.
 ///

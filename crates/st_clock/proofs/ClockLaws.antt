@@ -42,7 +42,7 @@ module _ {R : Type 0} where
         broken = λ l. f.broken (rule_along K L f.before f.after r g l);
       }
 
-  -- rules in front and behind
+  -- rules in front and after
   first_in_front : (K : R → Type 0) (rules more : List R) (r : R) → IsFirstBroken K rules r → IsFirstBroken K (rules ++ more) r
   first_in_front K rules more r f = record {
     before = f.before;

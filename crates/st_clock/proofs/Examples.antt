@@ -205,7 +205,7 @@ behind_the_gap = (
   lit≤ tt,
 )
 
--- the last tick of all, what is behind it, and what is before the first record
+-- the last tick of all, what is after it, and what is before the first record
 last_tick : TickOf short (over (pos 234375) 10000) (At 6000)
 last_tick = (
   record {

@@ -6,7 +6,7 @@ use Rattle.st_clock.specs.declared.coefficient.Coefficient.{Coefficient}
 use Rattle.st_ticks.specs.declared.variable.ClockWhy.TheVariants.{Range}
 use Rattle.st_clock.specs.Parts.{IsTick, IsTime, IsRate, IsRecordAt, AreRecords, KeepsCoefficients}
 
--- what stands at a place behind one more element: what stood there, or the new one
+-- what stands at a place after one more element: what stood there, or the new one
 pub pushed : (P : ℕ → Coefficient → Type 0) (xs : List Coefficient) (x : Coefficient) → ((i : ℕ) (r : Coefficient) → slice_get xs i ≡ Some r → P i r) → P (length xs) x
     → (i : ℕ) (r : Coefficient) → slice_get (xs ++ x ∷ []) i ≡ Some r → P i r
 pushed P [] x old new zero r g = subst (P 0) (same x r g) new

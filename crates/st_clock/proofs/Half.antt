@@ -149,7 +149,7 @@ begins tpm r k v p q pv after h =
     go : (x d y w : ℤ) → y ≤ℤ d → pos 0 <ℤ y → (x +ℤ pos 2 *ℤ d +ℤ neg_ℤ y) ≤ℤ w → x ≤ℤ w
     go x d y w a b h = let e = two-mul_z d in omega (arith, lin)
 
--- less than half a tick behind the tick's time is before the next tick's
+-- less than half a tick after the tick's time is before the next tick's
 below_next_tick : (tpm : ℕ) (r : Coefficient) (k : ℕ) (v : Fraction) → 0 < tpm → 0 < r.rate → 0 < v.den
     → v <ᶠ (line_time tpm r k +ᶠ half_tick tpm r) → v <ᶠ line_time tpm r (k + 1)
 below_next_tick tpm r k v p q pv h =

@@ -6,7 +6,7 @@ use Rattle.std.proofs.Common.{get_or}
 use Rattle.st_clock.specs.declared.coefficient.Coefficient.{Coefficient}
 use Rattle.st_clock.specs.Clock.{IsLast, AreRising}
 
--- one place is before, at or behind another
+-- one place is before, at or after another
 pub by_place : {P : Type 0} (i j : ℕ) → (i < j → P) → (i ≡ j → P) → (j < i → P) → P
 by_place i j before at after =
     elim (cases_lt i j) [

@@ -21,7 +21,7 @@ lower_passes x y t l p = grind (arith, nat_tests)
 same_element : (records : List Coefficient) (i j : ℕ) (d : Coefficient) (p : Coefficient → Bool) → i ≡ j → p (get_or records j d) ≡ true → p (get_or records i d) ≡ true
 same_element records i j d p e h = subst (λ n. p (get_or records n d) ≡ true) (sym e) h
 
--- the times of rising records, up to a time, come before those behind it
+-- the times of rising records, up to a time, come before those after it
 pub times_parted : (records : List Coefficient) (time : ℤ) → AreRising records → IsPartitionedBy (λ r. int_le r.time time) records
 times_parted records time rising i j d l m p =
     by_place i j

@@ -121,7 +121,7 @@ parts_are_time tpm r k u a p l e f =
         sum : (x : ℤ) (p a q : ℕ) → p + a ≡ q → x +ℤ pos p +ℤ pos a ≡ x +ℤ pos q
         sum x p a q h = omega (arith, ints)
 
--- a tick whose counts are too many is behind every time u with u < T + far
+-- a tick whose counts are too many is after every time u with u < T + far
 pub far_behind : (tpm : ℕ) (r : Coefficient) (k far : ℕ) (u : ℤ) → 0 < tpm → 0 < r.rate → r.ticks ≤ k → far / r.rate < (k - r.ticks) / tpm → u <ℤ (r.time +ℤ pos far)
     → units u <ᶠ line_time tpm r k
 far_behind tpm r k far u p q l h b =

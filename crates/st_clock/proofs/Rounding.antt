@@ -32,7 +32,7 @@ rounded_high d r p some =
     let twice : 0 < 2 * r = omega arith in
     high d r p (d / r) (d % r) ((2 * (d % r) * p + r) / (2 * r)) split (lt-div-mul-add {a = 2 * (d % r) * p + r} twice)
 
--- the same over the line of a record, d units behind its time
+-- the same over the line of a record, d units after its time
 pub line_floor : (tpm : ℕ) (r : Coefficient) (t : ℤ) (d n : ℕ) → 0 < r.rate → t ≡ r.time +ℤ pos d → 2 * n * r.rate ≤ 2 * d * tpm + r.rate
     → whole (pos (r.ticks + n)) ≤ᶠ (line_tick tpm r (units t) +ᶠ over (pos 1) 2)
 line_floor tpm r t d n some e h =

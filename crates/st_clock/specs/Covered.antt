@@ -14,7 +14,7 @@ abbrev pub half_tick : ℕ → Coefficient → Fraction
 half_tick tpm r = tick_length tpm r *ᶠ over (pos 1) 2
 
 -- the tick k is covered, by the record r at that place: it lies strictly inside its partition, at least one tick after
--- the record's, and where a next record is there, the line's tick behind it is still the record's, by tick and by time
+-- the record's, and where a next record is there, the line's tick after it is still the record's, by tick and by time
 pub record IsCovered (c : Clock) (k place : ℕ) (r : Coefficient) : Type 0 where
   pub inside : IsStrictlyInside c.face k
   pub last : IsLast (StartsBy k) c.records place r

@@ -1,5 +1,5 @@
 -- A clock's variables, and the first fault of the data type, the time system and the coefficients, after NAIF's SCLK
--- Required Reading, type 1. The limits are this project's own.
+-- Required Reading, type 1. The limits, and the order of the faults, are this project's own.
 use Rattle.std.specs.Prelude.{◌≡◌, ℕ, ◌+◌, ◌*◌, ◌^◌, ◌<◌, ◌≤◌, ℤ, pos, ◌<ℤ◌, unsigned_abs, List, [], ◌∷◌, ◌++◌, length, Some, Result, Ok, Err}
 use Rattle.std.specs.List.{slice_get}
 use Rattle.st_decimal.specs.declared.number.Dec.{Dec}

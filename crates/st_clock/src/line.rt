@@ -14,7 +14,7 @@ use st_dates::{FIRST, LAST};
 /// More units than lie between any record's time and the end of the range.
 const FAR: u128 = 1_000_000_000_000_000_000_000_000_000_000;
 
-/// The time of a tick on a record's line, from the record's tick on; none where that is behind the range of times.
+/// The time of a tick on a record's line, from the record's tick on; none where that is after the range of times.
 pub fn line_time(tpm: u64, r: Coefficient, ticks: u64) -> Option<Point>
     requires tpm_some { 0 < tpm }
     requires tpm_small { tpm ≤ 10 ^ 12 }
@@ -36,7 +36,7 @@ pub fn line_time(tpm: u64, r: Coefficient, ticks: u64) -> Option<Point>
     Some(point(r.time, counts * r.rate, part, tpm))
 }
 
-/// What is `elapsed + part / of` units behind a time.
+/// What is `elapsed + part / of` units after a time.
 fn point(time: i128, elapsed: u128, part: u128, of: u64) -> Point
     requires of_some { 0 < of }
     requires time_small { unsigned_abs time ≤ 10 ^ 28 }

@@ -35,7 +35,7 @@ fn rounded(elapsed: u128, tpm: u64, rate: u128) -> u128
     counts * tpm + (2 * rest * tpm + rate) / (2 * rate)
 }
 
-/// How many units a time is behind an earlier one.
+/// How many units a time is after an earlier one.
 fn units_since(begin: i128, time: i128) -> u128
     requires { begin ≤ℤ time }
     ensures { time ≡ begin +ℤ pos result }

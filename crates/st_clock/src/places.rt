@@ -8,7 +8,7 @@ ghost use Rattle.st_clock.specs.declared.coefficient.Coefficient.{Coefficient as
 
 use crate::coefficient::Coefficient;
 
-/// The record in force at a tick or a time, and the one behind it.
+/// The record in force at a tick or a time, and the one after it.
 #[derive(Clone, Copy)]
 pub struct InForce {
     pub record: Coefficient,
@@ -61,7 +61,7 @@ fn started(records: &[Coefficient], ticks: u64) -> usize
     )
 }
 
-/// The last of the first `count` records, of which there are so many, and the one behind it.
+/// The last of the first `count` records, of which there are so many, and the one after it.
 fn last_of(records: &[Coefficient], count: usize) -> Option<InForce>
     requires { count ≤ length records.now }
     ensures none { IfNone result (count ≡ 0) }

@@ -11,7 +11,7 @@ pub enum Ticks {
     Before,
     /// The nearest encoded tick.
     At(u64),
-    /// The nearest tick is behind the last partition's end.
+    /// The nearest tick is after the last partition's end.
     After,
 }
 

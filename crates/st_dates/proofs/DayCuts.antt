@@ -102,7 +102,7 @@ month_cut text p e =
     let b = bound (after 45 (behind is_no_dash text)) (last a.0) p a.2 in
     month_cut_of text a.0 b.0 p a.1 b.1 (same_Some _ p b.2)
 
--- a year and its dash, and a month and a day behind it
+-- a year and its dash, and a month and a day after it
 named_cut : (year text : List ℕ) (q : ℕ × List ℕ) (p : CalendarDate × List ℕ) → IsDigitRun 4 4 year → MonthCut text q → DayCut (number_of year) q.0 q.1 p → Cut (year ++ (45 ∷ text)) p.1 p.0
 unfolding number_in
 named_cut year text q p h month day = record {
@@ -143,7 +143,7 @@ day_first_cut day text q p h month year = record {
   names = (q.0, month.named_by, year.date_is);
 }
 
--- the text behind digits and a byte
+-- the text after digits and a byte
 behind_byte : (text t : List ℕ) → after 45 (past_digits text) ≡ Some t → text ≡ leading_digits text ++ (45 ∷ t)
 behind_byte text t e =
     sym (joined is_ascii_digit text) ∙ ap (λ (r : List ℕ). leading_digits text ++ r) (after_is 45 (past_digits text) t e)

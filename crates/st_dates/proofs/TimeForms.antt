@@ -72,7 +72,7 @@ time_read midnight h = time_none
 time_read (after_mark mark clock) h =
     time_then (mark ++ clock_spelling clock) (clock_spelling clock) (time (minute_of clock) (second_units clock)) (mark_read mark (clock_spelling clock) h.0 (clock_first clock h.1)) (clock_read 59 clock h.1)
 
--- what stands behind a day begins with no digit
+-- what stands after a day begins with no digit
 pub time_stops : (w : TimeText) → AreTimeParts w → Stops is_ascii_digit (time_spelling w)
 time_stops midnight h = tt
 time_stops (after_mark mark clock) h =

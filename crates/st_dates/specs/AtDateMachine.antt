@@ -1,4 +1,4 @@
--- How a date after an `@` is read: its day, the time behind it, and then the calendar and the
+-- How a date after an `@` is read: its day, the time after it, and then the calendar and the
 -- range.
 use Rattle.std.specs.Prelude.{ℕ, Bool, ◌&&◌, List, ℤ, int_le, Option, Some, None, Result, Ok, Err, if◌then◌else◌}
 use Rattle.st_dates.specs.AtDate.{moment}

@@ -1,4 +1,4 @@
--- How the day of a date is read: the form is known from the digits before and behind the first `-`.
+-- How the day of a date is read: the form is known from the digits before and after the first `-`.
 use Rattle.std.specs.Prelude.{ℕ, Bool, not, ◌≤◌, ◌==◌, List, length, ℤ, Option, Some, None, if◌then◌else◌}
 use Rattle.st_text.specs.Bytes.{number_of}
 use Rattle.st_dates.specs.CalendarMachine.{calendar_day, day_in_year}
@@ -16,7 +16,7 @@ HasFourDigits (OfYear year place) = year ≤ 9999
 abbrev pub is_no_dash : ℕ → Bool
 is_no_dash b = not (b == 45)
 
--- a month's name and the dash behind it, and the rest
+-- a month's name and the dash after it, and the rest
 unfoldable pub month_of_name : List ℕ → Option (ℕ × List ℕ)
 month_of_name text =
     month_named (leading is_no_dash text)
@@ -30,7 +30,7 @@ with_day y m text =
     then Some (OfMonth y m (number_of (leading_digits text)), past_digits text)
     else None
 
--- the digits of the year behind a day and a month, and the rest
+-- the digits of the year after a day and a month, and the rest
 unfoldable pub with_year : ℕ → ℕ → List ℕ → Option (CalendarDate × List ℕ)
 with_year m d text =
     if length (leading_digits text) == 4

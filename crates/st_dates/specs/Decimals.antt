@@ -1,4 +1,4 @@
--- The decimals of a second as they stand behind it, and their count of 10^-18 s. That at most 12 of
+-- The decimals of a second as they stand after it, and their count of 10^-18 s. That at most 12 of
 -- them are taken is a choice of this project.
 use Rattle.std.specs.Prelude.{◌≡◌, ℕ, ◌-◌, ◌*◌, ◌^◌, List, [], ◌∷◌, length}
 use Rattle.st_text.specs.Ascii.{point}

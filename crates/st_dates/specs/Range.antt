@@ -1,14 +1,14 @@
--- The range of times: from 1900-01-01 00:00 to 2100-01-01 00:00, as formal counts in units of
+-- The range of times: from 1800-01-01 00:00 to 2200-01-01 00:00, as formal counts in units of
 -- 10^-18 s past 2000-01-01 12:00:00. The bounds are a choice of this project.
 use Rattle.std.specs.Prelude.{ℤ, pos, neg_ℤ, ◌≤ℤ◌}
 use Rattle.st_dates.specs.Label.{formal}
 use Rattle.st_dates.specs.declared.label.Label.{Label}
 
 abbrev pub range_start : ℤ
-range_start = neg_ℤ (pos 3_155_716_800_000_000_000_000_000_000)
+range_start = neg_ℤ (pos 6_311_390_400_000_000_000_000_000_000)
 
 abbrev pub range_end : ℤ
-range_end = pos 3_155_716_800_000_000_000_000_000_000
+range_end = pos 6_311_390_400_000_000_000_000_000_000
 
 -- a formal count in the range, both bounds included
 abbrev pub IsInRange : ℤ → Type 0

@@ -1,4 +1,4 @@
--- The time of day as it is written behind a day. Source: Time Required Reading, for hours, minutes
+-- The time of day as it is written after a day. Source: Time Required Reading, for hours, minutes
 -- and seconds with colons between them; which marks may stand before them is a choice of this
 -- project.
 use Rattle.std.specs.Prelude.{◌≡◌, ℕ, ◌+◌, ◌*◌, ◌^◌, ◌≤◌, ◌⊎◌, List, [], ◌∷◌, ◌++◌, codes}
@@ -62,7 +62,7 @@ abbrev pub IsMark : List ℕ → Type 0
 IsMark text =
     (text ≡ codes "/") ⊎ ((text ≡ codes "//") ⊎ ((text ≡ codes "T") ⊎ ((text ≡ codes "t") ⊎ (text ≡ codes "-"))))
 
--- what stands behind a day: nothing, or a mark and a time
+-- what stands after a day: nothing, or a mark and a time
 pub data TimeText : Type 0 where
   midnight : TimeText
   after_mark : List ℕ → Clock → TimeText

@@ -1,4 +1,4 @@
--- How the time behind a day is read: a mark, then fields from the left.
+-- How the time after a day is read: a mark, then fields from the left.
 use Rattle.std.specs.Prelude.{ℕ, ◌+◌, ◌*◌, ◌^◌, ◌&&◌, ◌||◌, ◌==◌, nat_le, List, [], ◌∷◌, Option, Some, None, if◌then◌else◌}
 use Rattle.st_text.specs.Bytes.{number_of}
 use Rattle.st_dates.specs.Decimals.{units_of_decimals}
@@ -12,13 +12,13 @@ field last text =
     then Some (number_of (leading_digits text), past_digits text)
     else None
 
--- decimals of a second as units, behind a point, or nothing
+-- decimals of a second as units, after a point, or nothing
 unfoldable pub decimal_units : List ℕ → Option ℕ
 decimal_units [] = Some 0
 decimal_units (b ∷ t) =
     if (b == 46) && is_digit_run 1 12 t then Some (units_of_decimals t) else None
 
--- seconds up to the last that is taken as units, behind a colon, or nothing
+-- seconds up to the last that is taken as units, after a colon, or nothing
 unfoldable pub seconds_of : ℕ → List ℕ → Option ℕ
 seconds_of last [] = Some 0
 seconds_of last (b ∷ t) =
@@ -44,14 +44,14 @@ unfoldable pub past_slash : List ℕ → List ℕ
 past_slash [] = []
 past_slash (b ∷ t) = if b == 47 then t else b ∷ t
 
--- what stands behind `/`, `//`, `T`, `t` or `-`
+-- what stands after `/`, `//`, `T`, `t` or `-`
 unfoldable pub past_mark : List ℕ → Option (List ℕ)
 past_mark [] = None
 past_mark (b ∷ t) =
     if b == 47 then Some (past_slash t)
     else (if (b == 84) || (b == 116) || (b == 45) then Some t else None)
 
--- the units of the day that the text behind a day tells
+-- the units of the day that the text after a day tells
 unfoldable pub time_of_text : List ℕ → Option ℕ
 time_of_text [] = Some 0
 time_of_text (b ∷ t) = past_mark (b ∷ t) >>= λ u. clock_of 59 u >>= λ time. Some (day_units time)

@@ -1,4 +1,4 @@
-//! The dates of text kernels, which stand behind an `@`.
+//! The dates of text kernels, which stand after an `@`.
 
 ghost use Rattle.std.specs.Prelude.{◌≡◌, ◌<◌, ◌*◌, ◌^◌, ℤ, Result};
 ghost use Rattle.st_dates.specs.AtDate.{ReadsAtDate, moment};
@@ -98,13 +98,13 @@ mod tests {
             (b"2017-001", at(536_500_800, 0)),
             (b"2000-FEB-29", at(5_054_400, 0)),
             (b"2000-366", at(31_492_800, 0)),
-            (b"1900-JAN-1", at(-3_155_716_800, 0)),
-            (b"2100-JAN-1", at(3_155_716_800, 0)),
-            (b"2100-JAN-2", OUT_OF_RANGE),
-            (b"1899-365", OUT_OF_RANGE),
+            (b"1800-JAN-1", at(-6_311_390_400, 0)),
+            (b"2200-JAN-1", at(6_311_390_400, 0)),
+            (b"2200-JAN-2", OUT_OF_RANGE),
+            (b"1799-365", OUT_OF_RANGE),
             (b"0000-02-29", OUT_OF_RANGE),
             (b"0000-02-30", NO_DAY),
-            (b"1900-FEB-29", NO_DAY),
+            (b"1800-FEB-29", NO_DAY),
             (b"31-APR-2001", NO_DAY),
             (b"2001-13-1", NO_DAY),
             (b"2001-0-1", NO_DAY),
@@ -134,8 +134,8 @@ mod tests {
             (b"2000-001-12:00:07.25", at(7, 250_000_000_000)),
             (b"2000-001T0:0", at(-43_200, 0)),
             (b"1999-12-31T23:59:59.5", at(-43_201, 500_000_000_000)),
-            (b"2100-01-01T0:00:00.0", at(3_155_716_800, 0)),
-            (b"2100-01-01T0:00:00.1", OUT_OF_RANGE),
+            (b"2200-01-01T0:00:00.0", at(6_311_390_400, 0)),
+            (b"2200-01-01T0:00:00.1", OUT_OF_RANGE),
             (b"2001-02-29T1:00", NO_DAY),
             (b"2000-001T24:00", FORM),
             (b"2000-001T1:60", FORM),

@@ -82,7 +82,7 @@ fn month_next(day: u32, text: &[u8]) -> Option<(CalendarDate, &[u8])>
     with_year(month, day, rest)
 }
 
-/// The month whose name a text begins with, and what stands behind the name and a dash.
+/// The month whose name a text begins with, and what stands after the name and a dash.
 #[tactic(auto, unfolding(crate::specs::DayTextMachine::month_of_name))]
 fn read_month(text: &[u8]) -> Option<(u32, &[u8])>
     ensures { MatchOption result (month_of_name text.now ≡ None)

@@ -11,7 +11,7 @@ pub enum DateFault {
     /// The calendar has no such day.
     #[error("no such day")]
     NoSuchDay,
-    /// The instant lies before 1900-01-01 00:00 or after 2100-01-01 00:00.
+    /// The instant lies outside the range of times.
     #[error("out of range")]
     OutOfRange,
 }

@@ -6,11 +6,11 @@ ghost use Rattle.st_dates.specs.Label.{formal, formal as count_of, units, IsForm
 ghost use Rattle.st_dates.specs.Range.{LiesInRange};
 ghost use Rattle.st_dates.specs.declared.label.Label.{Label as TheLabel};
 
-/// The first instant of the range that is answered, 1900-01-01 00:00, in units past J2000.
-pub const FIRST: i128 = -3_155_716_800_000_000_000_000_000_000;
+/// The first instant of the range of times, in units past J2000.
+pub const FIRST: i128 = -6_311_390_400_000_000_000_000_000_000;
 
-/// The last instant of that range, 2100-01-01 00:00, in units past J2000.
-pub const LAST: i128 = 3_155_716_800_000_000_000_000_000_000;
+/// The last instant of the range of times, in units past J2000.
+pub const LAST: i128 = 6_311_390_400_000_000_000_000_000_000;
 
 /// The units of 10^-18 s in a second.
 pub const SECOND: i128 = 1_000_000_000_000_000_000;
@@ -54,8 +54,7 @@ pub fn label_of(formal: i128) -> Label
     }
 }
 
-/// Whether a label lies in the range of times, from 1900-01-01 00:00 to 2100-01-01 00:00, both
-/// included.
+/// Whether a label lies in the range of times, both ends included.
 pub fn is_in_range(label: Label) -> bool
     ensures lies { IsTrue result ↔ LiesInRange label }
     ensures exact { result ≡ machine.is_in_range (count_of label) }
@@ -93,22 +92,23 @@ mod tests {
             (0, noon, 0),
             (1, 0, noon),
             (-1, DAY - 1, -noon - 1),
-            (-36_524, 0, FIRST),
-            (36_525, 0, LAST),
+            (-73_048, 0, FIRST),
+            (73_049, 0, LAST),
         ];
         for (day, of_day, formal) in table {
-            assert!(rt; -36_524 <= day && day <= 36_525);
+            assert!(rt; -73_048 <= day && day <= 73_049);
             assert!(rt; 0 <= of_day && of_day < DAY);
             assert!(rt; FIRST <= formal && formal <= LAST);
             assert_eq!(rt; formal_of(Label { day, of_day }), formal);
             assert_eq!(rt; label_of(formal), Label { day, of_day });
         }
         let rows = [
-            (-36_524, 0, true),
-            (-36_525, DAY - 1, false),
-            (36_525, 0, true),
-            (36_525, 1, false),
-            (36_526, -DAY, true),
+            (-73_048, 0, true),
+            (-73_049, DAY - 1, false),
+            (-73_049, DAY, true),
+            (73_049, 0, true),
+            (73_049, 1, false),
+            (73_050, -DAY, true),
             (i32::MIN, i128::MAX, false),
         ];
         for (day, of_day, lies) in rows {

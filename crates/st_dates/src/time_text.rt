@@ -1,4 +1,4 @@
-//! The time of day behind the day of a date.
+//! The time of day after the day of a date.
 
 ghost use Rattle.std.specs.Prelude.{◌≡◌, ◌<◌, ◌*◌, ◌^◌, IfSome, option_copied};
 ghost use Rattle.st_dates.specs.TimeTextMachine as machine;
@@ -6,7 +6,7 @@ ghost use Rattle.st_dates.specs.TimeTextMachine.{time_of_text};
 
 use crate::clock::{MINUTE, read_clock};
 
-/// The units of the day that the text behind a day tells: none where it tells no time.
+/// The units of the day that the text after a day tells: none where it tells no time.
 #[tactic(auto, unfolding(crate::specs::TimeTextMachine::time_of_text))]
 pub(crate) fn read_time(text: &[u8]) -> Option<u128>
     ensures value { result ≡ time_of_text text.now }
@@ -19,7 +19,7 @@ pub(crate) fn read_time(text: &[u8]) -> Option<u128>
     Some(u128::from(time.minute) * MINUTE + time.units)
 }
 
-/// What stands behind a `/`, `//`, `T`, `t` or `-` with which a text begins.
+/// What stands after a `/`, `//`, `T`, `t` or `-` with which a text begins.
 #[tactic(auto, unfolding(crate::specs::TimeTextMachine::past_mark, crate::specs::TimeTextMachine::past_slash))]
 fn past_mark(text: &[u8]) -> Option<&[u8]>
     ensures { option_copied result ≡ machine.past_mark text.now }

@@ -26,7 +26,7 @@ pub record DateRead (w : DateText) (rest : List ℕ) : Type 0 where
   pub read : date_of_text (date_spelling w ++ rest) ≡ Some (date, rest)
   pub names : NamesDate (day_text w) date
 
--- where the byte behind the digits is no `-`, there is no date of the dashed forms
+-- where the byte after the digits is no `-`, there is no date of the dashed forms
 pub no_dashes : (text : List ℕ) → after 45 (past_digits text) ≡ None → day_of_text text ≡ None
 unfolding day_of_text
 no_dashes text e =
@@ -67,7 +67,7 @@ dashed : (w : DayText) (text rest : List ℕ) (d : CalendarDate) → text ≡ da
 unfolding date_of_text
 dashed w text rest d e f = rw (ap day_of_text e ∙ f) refl
 
--- a month's name and the blanks behind it
+-- a month's name and the blanks after it
 month_at : (name gap rest : List ℕ) (m : ℕ) → NamesMonth name m → IsGap gap → Stops is_blank rest → named_month (name ++ (gap ++ rest)) ≡ Some (m, rest)
 unfolding named_month
 month_at name gap rest m n g s =

@@ -99,7 +99,7 @@ gap_no_point : (gap rest : List ℕ) → IsGap gap → decimal_units (gap ++ res
 gap_no_point [] rest h = absurd (let n : 1 ≤ 0 = h.some in omega arith)
 gap_no_point (b ∷ gap) rest h = no_point b (gap ++ rest) (blank_no_point b (and-left (is_blank b) (are_blanks gap) h.blanks))
 
--- digits and what is no decimal behind them
+-- digits and what is no decimal after them
 digits_led : (text digits rest : List ℕ) → are_digits digits ≡ true → 1 ≤ length digits → text ≡ digits ++ rest → Stops is_ascii_digit rest → decimal_units rest ≡ None → NoOther text
 digits_led text [] rest h some e s other = absurd (let n : 1 ≤ 0 = some in omega arith)
 digits_led text (b ∷ t) rest h some e s other =

@@ -33,7 +33,7 @@ pub data DateText : Type 0 where
   year_name_day : List ℕ → Separators → List ℕ → List ℕ → DateText
   -- N1 S MON S YYYY, as 18 DEC 1996: day, month, year
   day_name_year : List ℕ → Separators → List ℕ → List ℕ → DateText
-  -- MON N1, YYYY, as DEC 18, 1996: month, blanks, day, blanks or none behind the comma, year
+  -- MON N1, YYYY, as DEC 18, 1996: month, blanks, day, blanks or none after the comma, year
   name_day_year : List ℕ → List ℕ → List ℕ → List ℕ → List ℕ → DateText
   -- N1/N1/YYYY, month first, as 12/18/1996: month, day, year
   month_day_year : List ℕ → List ℕ → List ℕ → DateText

@@ -9,7 +9,7 @@ use Rattle.st_dates.specs.declared.day_text.CalendarDate.{CalendarDate}
 use Rattle.st_dates.specs.declared.day_text.CalendarDate.TheVariants.{OfMonth}
 use Rattle.st_forms.specs.WordMachine.{run, word, past_word, past_gap}
 
--- a month's name up to a blank, and what stands behind it and the blanks
+-- a month's name up to a blank, and what stands after it and the blanks
 unfoldable pub named_month : List ℕ → Option (ℕ × List ℕ)
 named_month text = month_named (word text) >>= λ m. past_gap (past_word text) >>= λ t. Some (m, t)
 

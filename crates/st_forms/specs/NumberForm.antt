@@ -6,7 +6,7 @@ use Rattle.st_text.specs.Scan.{IsDigitRun}
 use Rattle.st_dates.specs.Decimals.{units_of_decimals}
 use Rattle.st_decimal.specs.Number.{pointed}
 
--- a decimal as it is written: the digits, and those behind a point where there is one
+-- a decimal as it is written: the digits, and those after a point where there is one
 pub record NumberText : Type 0 where
   pub whole : List ℕ
   pub decimals : Option (List ℕ)

@@ -34,7 +34,7 @@ past_sign (b ∷ t) = if (b == 43) || (b == 45) then t else b ∷ t
 unfoldable pub seconds_of_text : List ℕ → Option Reading
 seconds_of_text text = number_of_text (past_sign text) >>= λ n. Some (Plain (signed (is_minus text) n))
 
--- the number up to a blank, and the word behind it
+-- the number up to a blank, and the word after it
 unfoldable pub julian_days : List ℕ → Option Reading
 julian_days text =
     number_of_text (word text) >>= λ n. scale_of_text (past_word text)

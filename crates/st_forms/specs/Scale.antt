@@ -1,4 +1,4 @@
--- The word behind a time that names its system. Source: Time Required Reading, for the names of the
+-- The word after a time that names its system. Source: Time Required Reading, for the names of the
 -- systems; TDT is another name of TT, and ET of TDB.
 use Rattle.std.specs.Prelude.{ℕ, ◌⊎◌, List, [], ◌++◌, codes}
 use Rattle.st_dates.specs.Names.{AreSameLetters}
@@ -14,7 +14,7 @@ NamesSystem word Tt = AreSameLetters word (codes "TT") ⊎ AreSameLetters word (
 NamesSystem word Tdb = AreSameLetters word (codes "TDB") ⊎ AreSameLetters word (codes "ET")
 NamesSystem word Sclk = ⊥
 
--- what stands behind a date and its time: nothing, or blanks and a word
+-- what stands after a date and its time: nothing, or blanks and a word
 pub data ScaleText : Type 0 where
   unnamed : ScaleText
   by_word : List ℕ → List ℕ → ScaleText

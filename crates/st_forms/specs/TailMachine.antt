@@ -28,7 +28,7 @@ unfoldable pub scale_of_text : List ℕ → Option (Option System)
 scale_of_text [] = Some None
 scale_of_text (b ∷ t) = past_gap (b ∷ t) >>= λ u. system_named u >>= λ s. Some (Some s)
 
--- what stands behind a date: a time of day, and the system that a word names
+-- what stands after a date: a time of day, and the system that a word names
 abbrev pub Tail : Type 0
 Tail = TimeOfDay × Option System
 
@@ -43,7 +43,7 @@ abbrev pub begins_with_digit : List ℕ → Bool
 begins_with_digit [] = false
 begins_with_digit (b ∷ t) = is_ascii_digit b
 
--- behind blanks: a time of day, or the word that names a system
+-- after blanks: a time of day, or the word that names a system
 unfoldable pub spaced : List ℕ → Option Tail
 spaced text =
     if begins_with_digit text then timed text

@@ -1,4 +1,4 @@
--- The time of day behind a date. Source: Time Required Reading. It stands behind a `T` or blanks; hours
+-- The time of day after a date. Source: Time Required Reading. It stands after a `T` or blanks; hours
 -- go to 23, minutes to 59 and seconds to 60.
 use Rattle.std.specs.Prelude.{◌≢◌, ℕ, ◌*◌, ◌^◌, ◌≤◌, ◌⊎◌, List, codes}
 use Rattle.st_dates.specs.Names.{AreSameLetters}

@@ -21,7 +21,7 @@ word text = leading is_no_blank text
 abbrev pub past_word : List ℕ → List ℕ
 past_word text = behind is_no_blank text
 
--- what stands behind the blanks with which a text begins
+-- what stands after the blanks with which a text begins
 unfoldable pub past_gap : List ℕ → Option (List ℕ)
 past_gap [] = None
 past_gap (b ∷ t) = if is_blank b then Some (skip_blanks t) else None

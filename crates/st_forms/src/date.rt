@@ -30,7 +30,7 @@ pub(crate) fn read_date(text: &[u8]) -> Option<(CalendarDate, &[u8])>
     read_month_first(text)
 }
 
-/// A month's name up to a blank, and what stands behind it and the blanks.
+/// A month's name up to a blank, and what stands after it and the blanks.
 #[tactic(auto, unfolding(crate::specs::DateMachine::named_month))]
 fn read_month(text: &[u8]) -> Option<(u32, &[u8])>
     ensures { MatchOption result (machine.named_month text.now ≡ None)

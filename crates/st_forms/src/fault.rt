@@ -9,13 +9,13 @@ pub enum FormFault {
     /// 59 or a second above 60.
     #[error("no time")]
     BadTime,
-    /// The word behind the time names another system than the source.
+    /// The word after the time names another system than the source.
     #[error("a time of another system")]
     WrongSystem,
     /// The calendar has no such month, day or day of the year.
     #[error("no such day")]
     NoSuchDay,
-    /// The time lies before 1900-01-01 00:00 or after 2100-01-01 00:00.
+    /// The time lies outside the range of times.
     #[error("out of range")]
     OutOfRange,
 }

@@ -99,7 +99,7 @@ fn read_julian(text: &[u8]) -> Option<Reading>
     read_days(past_gap(rest)?)
 }
 
-/// The days of a Julian date, and the word behind them.
+/// The days of a Julian date, and the word after them.
 #[tactic(auto, unfolding(crate::specs::ReadingMachine::julian_days))]
 fn read_days(text: &[u8]) -> Option<Reading>
     ensures value { result ≡ machine.julian_days text.now }

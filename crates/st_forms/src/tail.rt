@@ -12,10 +12,10 @@ const MIDNIGHT: TimeOfDay = TimeOfDay {
     units: 0,
 };
 
-/// A time of day, and the system that a word behind it names.
+/// A time of day, and the system that a word after it names.
 pub(crate) type Tail = (TimeOfDay, Option<System>);
 
-/// What stands behind a date, where that is a time, a word or both, or nothing.
+/// What stands after a date, where that is a time, a word or both, or nothing.
 #[tactic(auto, unfolding(crate::specs::TailMachine::tail_of_text))]
 pub(crate) fn read_tail(text: &[u8]) -> Option<Tail>
     ensures value { result ≡ machine.tail_of_text text.now }
@@ -29,7 +29,7 @@ pub(crate) fn read_tail(text: &[u8]) -> Option<Tail>
     }
 }
 
-/// Behind blanks: a time of day, or the word that names a system.
+/// After blanks: a time of day, or the word that names a system.
 #[tactic(auto, unfolding(crate::specs::TailMachine::spaced))]
 fn read_spaced(text: &[u8]) -> Option<Tail>
     ensures value { result ≡ machine.spaced text.now }
@@ -42,7 +42,7 @@ fn read_spaced(text: &[u8]) -> Option<Tail>
     }
 }
 
-/// A time of day up to a blank, and the word behind it.
+/// A time of day up to a blank, and the word after it.
 #[tactic(auto, unfolding(crate::specs::TailMachine::timed))]
 fn read_timed(text: &[u8]) -> Option<Tail>
     ensures value { result ≡ machine.timed text.now }
@@ -54,7 +54,7 @@ fn read_timed(text: &[u8]) -> Option<Tail>
     Some((time, read_scale(rest)?))
 }
 
-/// The system that a word behind blanks names; `Some(None)` where the text has ended.
+/// The system that a word after blanks names; `Some(None)` where the text has ended.
 #[tactic(auto, unfolding(crate::specs::TailMachine::scale_of_text))]
 pub(crate) fn read_scale(text: &[u8]) -> Option<Option<System>>
     ensures { result ≡ machine.scale_of_text text.now }

@@ -37,7 +37,7 @@ pub enum TimeText {
 /// `N1-MON-YYYY`, `MON N1, YYYY` and `N1/N1/YYYY` with the month first, where N1 is one or two digits,
 /// N3 three, and MON a month's name or its first three letters. A time may follow `T` or blanks: hours
 /// to 23, minutes to 59 and seconds to 60, as `N1:N1`, `N1:N1:N1` or with 1 to 12 decimals; without one
-/// it is midnight. A Julian date is `JD`, blanks and a decimal, which counts days. Behind blanks a
+/// it is midnight. A Julian date is `JD`, blanks and a decimal, which counts days. After blanks a
 /// scale word may follow both: `UTC`, `TAI`, `TT`, `TDT`, `TDB` or `ET`. A plain decimal counts seconds
 /// past J2000. The system is none of a spacecraft's clock.
 ///
@@ -45,7 +45,7 @@ pub enum TimeText {
 ///
 /// `BadTime` where the text has none of the forms that are taken, `WrongSystem` where its scale word
 /// names another system, `NoSuchDay` where the calendar has no such day, and `OutOfRange` outside
-/// 1900-01-01 00:00 to 2100-01-01 00:00, in this order.
+/// the range of times, in this order.
 ///
 /// The forms are some of those of NAIF's Time Required Reading.
 pub fn read_time(text: &[u8], system: System, form: Form) -> Result<TimeText, FormFault>

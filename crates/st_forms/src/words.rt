@@ -40,7 +40,7 @@ fn word_length(text: &[u8]) -> usize
     text.iter().take_while(|&&byte| !is_blank(byte)).count()
 }
 
-/// What stands behind the blanks with which a text begins; none where it begins with no blank.
+/// What stands after the blanks with which a text begins; none where it begins with no blank.
 #[tactic(auto, unfolding(crate::specs::WordMachine::past_gap))]
 pub(crate) fn past_gap(text: &[u8]) -> Option<&[u8]>
     ensures { option_copied result ≡ machine.past_gap text.now }

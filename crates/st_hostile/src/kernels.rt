@@ -66,7 +66,7 @@ fn any_byte_in_any_place(rt: HostRuntime) -> Result<(), Fail> {
     Ok(())
 }
 
-/// Texts behind `\begindata`: the front, what is repeated and how often, and the end; and how what is read begins.
+/// Texts after `\begindata`: the front, what is repeated and how often, and the end; and how what is read begins.
 const REPEATED: [(&str, &str, usize, &str, &str); 22] = [
     ("X = ", "(", 996, "", "Err(At { line: 2, cause: BadNumber"),
     (

@@ -66,7 +66,7 @@ fn failing_calls_of_the_files(rt: HostRuntime) -> Result<(), Fail> {
     let good = answers(alloc, usize::MAX)?;
     let bad = answers_after_a_fault(alloc)?;
     for (most, passed) in CALLS {
-        // The setup comes first, and then the loading; behind it no call is left to fail.
+        // The setup comes first, and then the loading; after it no call is left to fail.
         let mut reached = 0;
         for call in 1..41u32 {
             let failing = Outside {

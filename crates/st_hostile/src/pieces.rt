@@ -25,7 +25,7 @@ fn answers(rt: &impl Abort, alloc: Global, kernel: &[u8], wanted: &str) -> Resul
     Ok(())
 }
 
-/// What stands behind `\begindata`, and the answer.
+/// What stands after `\begindata`, and the answer.
 const DATA: [(&str, &str); 12] = [
     ("X+=1", "loaded"),
     ("X = 1E2, 'a'", "refused KERNEL_TEXT 2 TRAILING_TEXT"),
@@ -60,7 +60,7 @@ const CUTS: [(&[u8], &str); 4] = [
     (b"@1972-JU", "refused KERNEL_TEXT 9 BAD_DATE"),
 ];
 
-/// A kernel, cut off behind the first place where it has this text.
+/// A kernel, cut off after the first place where it has this text.
 fn cut_behind<'a>(kernel: &'a [u8], text: &[u8]) -> &'a [u8] {
     for start in 0..kernel.len() {
         if let Some(rest) = kernel[start..].strip_prefix(text) {

@@ -1,4 +1,4 @@
--- The data are those of lines: each byte stands on the line of the byte behind it, but for the end of a line.
+-- The data are those of lines: each byte stands on the line of the byte after it, but for the end of a line.
 use Rattle.std.proofs.Common.{inl, inr, ◌⊎◌, ◌≡◌, ℕ, ◌+◌, Bool, true, false, List, [], ◌∷◌, ◌++◌, refl, ap, sym, ◌∙◌, subst, append_assoc}
 use Rattle.std.specs.Prelude.{⊤, if◌then◌else◌}
 use Rattle.std.specs.List.{list_all}
@@ -51,7 +51,7 @@ same_line b c t h lacks = by h.0
     by (inl e) = absurd (lacks e)
     by (inr e) = e
 
--- a word without an end of a line, and the byte behind it, stand on one line
+-- a word without an end of a line, and the byte after it, stand on one line
 pub word_line : (b : ℕ × ℕ) (word : Data) (c : ℕ × ℕ) (t : Data) → list_all is_no_line_end (plain (b ∷ word)) ≡ true → InLines (b ∷ (word ++ c ∷ t)) → b.0 ≡ c.0
 word_line b [] c t n h = same_line b c t h (no_end b.1 (and_parts (is_no_line_end b.1) true n).0)
 word_line b (x ∷ word) c t n h =

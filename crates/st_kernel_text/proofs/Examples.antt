@@ -82,7 +82,7 @@ no_value : read_of (beginning (codes "X =")) ≡ fails 2 NoValue
 unfolding beginning lines_of without_cr is_marker line_of is_allowed step_of is_name_byte is_run_byte is_name ends_in_plus put_of finish_in
 no_value = refl
 
--- a list goes on behind commentary, and the lines of commentary count
+-- a list goes on after commentary, and the lines of commentary count
 over_commentary : read_of (beginning (codes "X = (" ++ (10 ∷ codes "\\begintext") ++ (10 ∷ codes "= ( '") ++ (10 ∷ codes "\\begindata") ++ (10 ∷ codes "'a')")))
     ≡ Ok (record { name = codes "X"; mode = Set; values = Text (codes "a") ∷ [] } ∷ [])
 unfolding beginning lines_of without_cr is_marker line_of is_allowed step_of is_name_byte is_run_byte is_name ends_in_plus put_of finish_in

@@ -82,7 +82,7 @@ name_read done (b ∷ word) rest s h =
     let both = and_parts (is_name_byte b.1) (list_all is_name_byte (plain word)) h in
     one_step _ _ b.0 b.1 (word ++ rest) (fresh_step done b.0 b.1 both.0) ∙ name_more done (b.1 ∷ []) word rest both.1
 
--- a byte behind a whole name is read in a name as it is read behind it
+-- a byte after a whole name is read in a name as it is read after it
 pub ended_step : (done : List Assignment) (name : List ℕ) (n b : ℕ) → IsName name → is_name_byte b ≡ false
     → step_of (naming Name done name) n b ≡ named_of (naming Name done name) n b
 unfolding step_of
@@ -98,7 +98,7 @@ pub named_blank : (done : List Assignment) (name : List ℕ) (n b : ℕ) → is_
 unfolding step_of
 named_blank done name n b e = cond-true _ _ _ e
 
--- blanks behind a name; without any the reader is still in the name
+-- blanks after a name; without any the reader is still in the name
 pub blanks_read : (done : List Assignment) (name : List ℕ) (b : ℕ × ℕ) (blanks rest : Data) → IsName name → list_all is_blank (plain (b ∷ blanks)) ≡ true
     → steps_of (naming Name done name) ((b ∷ blanks) ++ rest) ≡ steps_of (naming Named done name) rest
 blanks_read done name b blanks rest h e =

@@ -35,7 +35,7 @@ pub record IsNaming (t : Data) (p : Parser) : Type 0 where
   pub bytes : list_all is_name_byte (plain word) ≡ true
   pub whole : t ≡ front ++ word
 
--- in the blanks behind a name, of which there is one at least
+-- in the blanks after a name, of which there is one at least
 pub record IsNamed (t : Data) (p : Parser) : Type 0 where
   pub done : List Assignment
   pub front : Data
@@ -48,7 +48,7 @@ pub record IsNamed (t : Data) (p : Parser) : Type 0 where
   pub are_blanks : list_all is_blank (plain (blank ∷ blanks)) ≡ true
   pub whole : t ≡ front ++ (word ++ (blank ∷ blanks))
 
--- behind a `+` there
+-- after a `+` there
 pub record IsPlus (t : Data) (p : Parser) : Type 0 where
   pub done : List Assignment
   pub front : Data
@@ -113,7 +113,7 @@ pub record IsInRun (t : Data) (p : Parser) : Type 0 where
   pub bytes : list_all is_run_byte (plain word) ≡ true
   pub whole : t ≡ front ++ word
 
--- in a string, and behind a quote in it
+-- in a string, and after a quote in it
 pub record IsInText (t : Data) (p : Parser) : Type 0 where
   pub state : Parser
   pub front : Data
@@ -138,7 +138,7 @@ pub record IsAtQuote (t : Data) (p : Parser) : Type 0 where
   pub written : plain text ≡ quoted content ++ 39 ∷ []
   pub whole : t ≡ front ++ ((line, 39) ∷ text)
 
--- behind the values of an assignment, whatever follows
+-- after the values of an assignment, whatever follows
 pub record IsClosed (t : Data) (p : Parser) : Type 0 where
   pub done : List Assignment
   pub name : List ℕ

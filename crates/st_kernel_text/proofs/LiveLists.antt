@@ -1,4 +1,4 @@
--- One more byte in a list, and a whole value with the byte behind it.
+-- One more byte in a list, and a whole value with the byte after it.
 use Rattle.std.proofs.Common.{inl, inr, ◌≡◌, ℕ, ◌<◌, true, false, List, [], ◌∷◌, ◌++◌, length, Some, None, Ok, refl, ap, sym, ◌∙◌, subst, arith, append_assoc}
 use Rattle.std.specs.Prelude.{◌==◌}
 use Rattle.std.proofs.lemmas.Bool.{cond_both, eqb-true, eqb-false, or_from, both_ways}
@@ -118,7 +118,7 @@ pub on_list : (done : List Assignment) (name : List ℕ) (mode : Mode) (k l : �
 unfolding step_of
 on_list done name mode k l vs t front items n b head kind spells w = on_list_open done name mode k l vs t front items n b head kind spells w
 
--- a whole value and the byte behind it
+-- a whole value and the byte after it
 follows_list : (b : ℕ) → may_follow b ≡ true → is_separator b ≡ false → (b == 41) ≡ true
 follows_list b h e = grind (arith, nat_tests, common_steps)
 

@@ -1,4 +1,4 @@
--- One more byte between assignments, in a name, behind it and in its sign.
+-- One more byte between assignments, in a name, after it and in its sign.
 use Rattle.std.proofs.Common.{inl, ◌≡◌, ℕ, ◌<◌, true, false, ◌&&◌, List, [], ◌∷◌, ◌++◌, length, None, refl, ap, sym, ◌∙◌, subst, arith, append_assoc}
 use Rattle.std.specs.Prelude.{◌==◌}
 use Rattle.std.specs.List.{list_all}

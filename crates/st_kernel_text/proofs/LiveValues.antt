@@ -1,4 +1,4 @@
--- One more byte before a value, in it and behind it.
+-- One more byte before a value, in it and after it.
 use Rattle.std.proofs.Common.{inl, inr, ◌≡◌, ℕ, true, false, List, [], ◌∷◌, ◌++◌, Option, Some, None, Ok, refl, ap, sym, ◌∙◌, subst, arith, append_assoc}
 use Rattle.std.specs.Prelude.{◌==◌}
 use Rattle.std.specs.List.{list_all}
@@ -75,7 +75,7 @@ pub value_breaks : (t rest : Data) (p : Parser) (n : ℕ) (cause : TextCause) �
 value_breaks t rest p n cause (waits_signed h) o v = signed_breaks t rest p n cause h (without_before rest o) v
 value_breaks t rest p n cause (waits_listed h) o v = listed_breaks t rest p n cause h (without_follow rest o) v
 
--- behind the values
+-- after the values
 pub on_closed : (done : List Assignment) (name : List ℕ) (mode : Mode) (k : ℕ) (o : Option ℕ) (vs : List Value) (t front body blanks : Data) (n b : ℕ)
     → IsHead done name mode k front → ((rest : Data) → SpellsValues vs body (blanks ++ ((n, b) ∷ rest))) → list_all is_blank (plain blanks) ≡ true
     → t ≡ front ++ (body ++ blanks) → Outcome t n b (closed_of (closed done name mode k o vs) n b)

@@ -33,7 +33,7 @@ whole_file bytes x e = ap (λ (z : Result Reading Fault). z >>= rest_of) (sym e)
 fed_reached : (bytes : List ℕ) (q : Reading) → fed_of bytes ≡ Ok q → Reached lines.beginning [] 1 bytes q
 fed_reached bytes q e = reached bytes lines.beginning [] 1 q refl short_none e
 
--- behind ended lines no line is begun
+-- after ended lines no line is begun
 nothing_begun : (ended : List ℕ) (q : Reading) → IsEnded ended → fed_of ended ≡ Ok q → q.begun ≡ []
 nothing_begun ended q i e =
     let g = fed_reached ended q e in none_begun g.ended q.begun (subst IsEnded g.whole i) g.begun_is

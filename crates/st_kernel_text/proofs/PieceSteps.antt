@@ -133,7 +133,7 @@ reached_line k a begun n b t q h y e m = record {
   whole = line_whole begun m.ended q.begun t b y m.whole;
 }
 
--- what one more byte of a reading gives, and the bytes behind it
+-- what one more byte of a reading gives, and the bytes after it
 then_bytes : (r : Reading) (b : ℕ) (t : List ℕ) (x y : Result Reading Fault) → byte_of r b ≡ x → bytes_of r (b ∷ t) ≡ y → (x >>= λ q. bytes_of q t) ≡ y
 then_bytes r b t x y e h = ap (λ (z : Result Reading Fault). z >>= λ q. bytes_of q t) (sym e) ∙ h
 

@@ -16,7 +16,7 @@ use Rattle.st_kernel_text.proofs.LiveTokens.{content_more, full}
 use Rattle.st_kernel_text.proofs.PlainValues.{NoValueHere, plain_value, line_feed_no_run}
 use Rattle.st_kernel_text.proofs.States.{plain-append}
 
--- what stands behind the quote of line `opened`: a string, or one that breaks at some line
+-- what stands after the quote of line `opened`: a string, or one that breaks at some line
 abbrev Broken : ℕ → Data → Type 0
 Broken opened body = (n : ℕ) × (HasOpenText ((opened, 39) ∷ body) n ⊎ HasBadEnd ((opened, 39) ∷ body) n)
 
@@ -85,7 +85,7 @@ plain_byte opened done seen x u is written q on =
       ]
     ]
 
--- a quote, and the byte behind it
+-- a quote, and the byte after it
 quote_then : (opened : ℕ) (done : List ℕ) (seen : Data) (x c : ℕ × ℕ) (u : Data) → IsContent done → plain seen ≡ quoted done → x.1 ≡ 39
     → (c.1 ≡ 39 → IsContent (done ++ 39 ∷ []) → Scanned opened (((seen ++ x ∷ []) ++ c ∷ []) ++ u)) → Scanned opened (seen ++ x ∷ (c ∷ u))
 quote_then opened done seen x c u is written q on =

@@ -51,7 +51,7 @@ separator_skips : (done : List Assignment) (name : List ℕ) (mode : Mode) (k : 
 unfolding step_of
 separator_skips done name mode k o vs n b h = cond-true _ _ _ h
 
--- a value of a list, up to the byte behind it, which is read as in the list
+-- a value of a list, up to the byte after it, which is read as in the list
 listed_put : (done : List Assignment) (name : List ℕ) (mode : Mode) (k l : ℕ) (us : List Value) (v : Value) (n b : ℕ) → fits us v ≡ true
     → put_of (signed InList done name mode k (Some l) us []) v n b ≡ step_of (signed InList done name mode k (Some l) (us ++ v ∷ []) []) n b
 unfolding put_of step_of
@@ -82,7 +82,7 @@ items_read done name mode k l us (v ∷ vs) t follow h kind =
     ∙ items_read done name mode k l (us ++ v ∷ []) vs h.rest follow h.more still
     ∙ ap (λ (z : List Value). steps_of (signed InList done name mode k (Some l) z []) follow) together
 
--- behind the values of an assignment
+-- after the values of an assignment
 abbrev pub closed : List Assignment → List ℕ → Mode → ℕ → Option ℕ → List Value → Parser
 closed done name mode k o vs = signed Closed done name mode k o vs []
 
@@ -110,7 +110,7 @@ unfolding step_of
 list_closes done name mode k l vs n h =
     cond-false (length vs == 0) _ _ (ne_eqb (length vs) 0 (λ (e : length vs ≡ 0). absurd (omega (arith, h, e))))
 
--- where the reader stands behind the values, which depends on their parentheses
+-- where the reader stands after the values, which depends on their parentheses
 pub record Behind (done : List Assignment) (name : List ℕ) (mode : Mode) (k : ℕ) (vs : List Value) (t rest : Data) : Type 0 where
   pub opened : Option ℕ
   pub is : steps_of (signed Signed done name mode k None [] []) (t ++ rest) ≡ steps_of (closed done name mode k opened vs) rest

@@ -1,4 +1,4 @@
--- A value is read as it is spelled, up to the byte behind it.
+-- A value is read as it is spelled, up to the byte after it.
 use Rattle.std.proofs.Common.{inl, inr, ◌≡◌, ℕ, ◌+◌, ◌<◌, ◌≤◌, Bool, true, false, List, [], ◌∷◌, ◌++◌, length, Option, Some, None, Result, Ok, refl, ap, sym, ◌∙◌, arith, append_assoc}
 use Rattle.std.specs.Prelude.{◌==◌, ◌||◌, cond}
 use Rattle.std.specs.List.{list_all}
@@ -24,7 +24,7 @@ use Rattle.st_kernel_text.specs.declared.value.Value.TheVariants.{Number, Text}
 use Rattle.st_kernel_text.proofs.Runs.{run_only}
 use Rattle.st_kernel_text.proofs.States.{signed, one_step, run_no_follow, follow_no_stop, run_no_quote, follow_no_quote}
 
--- a first byte and what is behind it
+-- a first byte and what is after it
 pub record Cut (t : Data) (b : ℕ) (u : List ℕ) : Type 0 where
   pub line : ℕ
   pub more : Data

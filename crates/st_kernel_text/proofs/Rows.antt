@@ -39,7 +39,7 @@ signed_read n t rest h = record {
       ∙ head_read h.done h.name h.mode n h.head rest h.head_is;
 }
 
--- behind a name the reader is still in it, where no blank follows
+-- after a name the reader is still in it, where no blank follows
 pub record ReadsNamed (t rest : Data) (word blanks : Data) : Type 0 where
   pub done : List Assignment
   pub is : steps_of (fresh []) (t ++ rest) ≡ steps_of (naming Name done (plain word)) (blanks ++ rest)

@@ -1,4 +1,4 @@
--- At the end of a line the reader stands between assignments, behind a sign or in a list.
+-- At the end of a line the reader stands between assignments, after a sign or in a list.
 use Rattle.std.proofs.Common.{◌≡◌, ℕ, Bool, true, false, List, [], Option, Some, None, Result, Ok, Err, refl, ap, sym, ◌∙◌, subst}
 use Rattle.std.specs.Prelude.{⊤}
 use Rattle.std.proofs.lemmas.Bool.{cond_both, both_ways}

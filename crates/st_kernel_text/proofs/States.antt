@@ -19,11 +19,11 @@ use Rattle.st_kernel_text.specs.declared.parser.Parser.{Parser}
 use Rattle.st_kernel_text.specs.declared.parser.Stage.{Stage}
 use Rattle.st_kernel_text.specs.declared.value.Value.{Value}
 
--- in a name and behind it
+-- in a name and after it
 abbrev pub naming : Stage → List Assignment → List ℕ → Parser
 naming s done w = record { done = done; stage = s; name = w; mode = Set; sign = 0; opened = None; values = []; run = [] }
 
--- behind a sign: before a value, in one, in a list or behind it
+-- after a sign: before a value, in one, in a list or after it
 abbrev pub signed : Stage → List Assignment → List ℕ → Mode → ℕ → Option ℕ → List Value → List ℕ → Parser
 signed s done name mode n o vs run = record { done = done; stage = s; name = name; mode = mode; sign = n; opened = o; values = vs; run = run }
 
@@ -43,7 +43,7 @@ steps-append p (x ∷ a) b =
     let P : Result Parser Fault → Type 0 = λ r. (r >>= λ q. steps_of q (a ++ b)) ≡ ((r >>= λ q. steps_of q a) >>= λ q. steps_of q b) in
     elim (step_of p x.0 x.1) as P [ Ok q ↦ steps-append q a b | Err e ↦ refl ]
 
--- one byte, and the bytes behind it
+-- one byte, and the bytes after it
 pub one_step : (p q : Parser) (n b : ℕ) (rest : Data) → step_of p n b ≡ Ok q → steps_of p ((n, b) ∷ rest) ≡ steps_of q rest
 one_step p q n b rest h = ap (λ (r : Result Parser Fault). r >>= λ z. steps_of z rest) h
 

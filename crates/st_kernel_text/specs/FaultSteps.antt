@@ -1,5 +1,5 @@
 -- The first token that cannot go on, by the byte at which the reader finds it: private clauses and
--- proofs cite it. `Faults` says the same by what may stand. A token and the byte directly behind it
+-- proofs cite it. `Faults` says the same by what may stand. A token and the byte directly after it
 -- stand on one line, since the end of a line counts to the line that it ends.
 use Rattle.std.specs.Prelude.{◌≡◌, ℕ, Bool, false, List, [], ◌∷◌, ◌++◌, length, ◌==◌, ◌||◌, IsTrue, ◌⊎◌}
 use Rattle.st_text.specs.Bytes.{is_blank}
@@ -17,7 +17,7 @@ abbrev pub BeginsWithout : (ℕ → Bool) → Data → Type 0
 BeginsWithout test [] = ⊥
 BeginsWithout test (b ∷ t) = test b.1 ≡ false
 
--- the longest run of bytes of a name is no name; of `+=` behind it the `+` is the sign's
+-- the longest run of bytes of a name is no name; of `+=` after it the `+` is the sign's
 pub record HasNoName (t : Data) (n : ℕ) : Type 0 where
   pub word : Data
   pub byte : ℕ

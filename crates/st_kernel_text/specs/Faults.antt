@@ -20,11 +20,11 @@ pub data Row : Type 0 where
   -- before an assignment
   between : Row
   behind_name : Row
-  -- behind a sign of this line
+  -- after a sign of this line
   behind_sign : ℕ → Row
-  -- in a list behind a `(` of this line and these values
+  -- in a list after a `(` of this line and these values
   in_list : ℕ → List Value → Row
-  -- behind a value without parentheses or a `)`
+  -- after a value without parentheses or a `)`
   behind_values : Row
 
 -- the data begin with no byte of a name, so that a name before them is whole
@@ -92,7 +92,7 @@ HasSignOf mode t = (n : ℕ) × (sign : Data) × (rest : Data) × SpellsSign mod
 abbrev pub HasSign : Data → Type 0
 HasSign t = (mode : Mode) × HasSignOf mode t
 
--- a name stands here: the bytes behind it are none of a name, or they are `+=`
+-- a name stands here: the bytes after it are none of a name, or they are `+=`
 pub record HasName (t : Data) : Type 0 where
   pub name : Data
   pub rest : Data
@@ -152,7 +152,7 @@ pub record HasFault (t : Data) (n : ℕ) (cause : TextCause) : Type 0 where
   pub breaks : Breaks row rest n cause
   pub whole : t ≡ before ++ rest
 
--- the data may not end in this row: behind a sign and in a list, whose lines are named. Behind a
+-- the data may not end in this row: after a sign and in a list, whose lines are named. After a
 -- name they never end, since each data line has its end, which may not follow a name
 abbrev pub IsUnfinished : Row → ℕ → TextCause → Type 0
 IsUnfinished between n cause = ⊥

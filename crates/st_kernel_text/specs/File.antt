@@ -30,7 +30,7 @@ begins_text line = is_marker (codes "\\begintext") line
 abbrev pub is_data : Bool → List ℕ → Bool
 is_data reading line = if begins_data line then false else (if begins_text line then false else reading)
 
--- whether the line behind it does
+-- whether the line after it does
 abbrev pub reads_after : Bool → List ℕ → Bool
 reads_after reading line = if begins_data line then true else (if begins_text line then false else reading)
 
@@ -38,7 +38,7 @@ abbrev pub reads_behind : Bool → List (List ℕ) → Bool
 reads_behind reading [] = reading
 reads_behind reading (line ∷ more) = reads_behind (reads_after reading line) more
 
--- the bytes of a line behind its number
+-- the bytes of a line after its number
 abbrev pub numbered : ℕ → List ℕ → Data
 numbered n line = map (λ b. (n, b)) line
 
@@ -93,7 +93,7 @@ pub record HasBadToken (bytes : List ℕ) (n : ℕ) (cause : TextCause) : Type 0
   pub fault : HasFault (data_text false 1 front) n cause
   pub whole : lines_of bytes ≡ front ++ more
 
--- data that end behind a sign or in a list
+-- data that end after a sign or in a list
 pub record HasNoEnd (bytes : List ℕ) (n : ℕ) (cause : TextCause) : Type 0 where
   pub row : Row
   pub good : AreGood false (lines_of bytes)

@@ -13,7 +13,7 @@ use Rattle.st_kernel_text.specs.declared.assignment.Mode.TheVariants.{Set, Add}
 use Rattle.st_kernel_text.specs.declared.value.Value.{Value}
 use Rattle.st_kernel_text.specs.declared.value.Value.TheVariants.{Number, Text}
 
--- the data of a file: bytes, each behind the number of its line
+-- the data of a file: bytes, each after the number of its line
 abbrev pub Data : Type 0
 Data = List (ℕ × ℕ)
 
@@ -68,7 +68,7 @@ abbrev pub AreOfOneKind : List Value → Type 0
 AreOfOneKind [] = ⊤
 AreOfOneKind (first ∷ more) = IsTrue (list_all (same_kind first) more)
 
--- a value behind separators, and more behind it
+-- a value after separators, and more after it
 pub record SpellsItem (v : Value) (More : Data → Type 0) (t follow : Data) : Type 0 where
   pub gap : Data
   pub text : Data

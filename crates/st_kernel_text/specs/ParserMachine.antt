@@ -62,7 +62,7 @@ is_name name = nat_lt 0 (length name) && nat_le (length name) 32 && not (ends_in
 abbrev pub without_last : List ℕ → List ℕ
 without_last name = take (length name - 1) name
 
--- behind a name
+-- after a name
 abbrev pub named_of : Parser → ℕ → ℕ → Result Parser Fault
 named_of p n b =
     if is_blank b then Ok (record p { stage = Named })
@@ -118,11 +118,11 @@ abbrev pub after_in : Option ℕ → Parser → ℕ → ℕ → Result Parser Fa
 after_in None p n b = closed_of (record p { stage = Closed }) n b
 after_in (Some line) p n b = list_of (record p { stage = InList }) n b
 
--- the byte behind a value
+-- the byte after a value
 abbrev pub after_of : Parser → ℕ → ℕ → Result Parser Fault
 after_of p n b = after_in p.opened p n b
 
--- a value, and the byte behind it
+-- a value, and the byte after it
 unfoldable pub put_of : Parser → Value → ℕ → ℕ → Result Parser Fault
 put_of p v n b =
     if fits p.values v then after_of (record p { values = p.values ++ v ∷ []; run = [] }) n b else fails n MixedKinds
@@ -146,7 +146,7 @@ quoted_of p n b =
     if b == 39 then Ok (record p { stage = Quote })
     else (if b == 10 then fails n BadString else push_quoted p n b)
 
--- behind a `'` in a string
+-- after a `'` in a string
 abbrev pub quote_of : Parser → ℕ → ℕ → Result Parser Fault
 quote_of p n b =
     if b == 39 then push_quoted p n b

@@ -23,7 +23,7 @@ date_number text = dated (at_date_of text)
 abbrev pub short_number : List ℕ → Option Dec
 short_number run = if nat_lt 1000 (length run) then None else numbered_value (dec_of run)
 
--- the number that a run of bytes spells: a date behind an `@`, else a number. No line has more than
+-- the number that a run of bytes spells: a date after an `@`, else a number. No line has more than
 -- 1,000 bytes
 unfoldable pub number_of_run : List ℕ → Option Dec
 number_of_run [] = None

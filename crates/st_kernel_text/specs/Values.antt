@@ -1,5 +1,5 @@
 -- What a value of a kernel is, after NAIF's Kernel Required Reading: a string
--- between quotes, a date behind an `@`, or a number.
+-- between quotes, a date after an `@`, or a number.
 use Rattle.std.specs.Prelude.{◌≡◌, ℕ, ℤ, ◌≤◌, Bool, not, List, [], ◌∷◌, ◌++◌, length, Ok, ◌==◌, ◌||◌, IsTrue, MatchBool, if◌then◌else◌}
 use Rattle.std.specs.List.{list_all}
 use Rattle.st_text.specs.Ascii.{line_feed, quote, close_paren, at_sign}
@@ -13,7 +13,7 @@ use Rattle.st_kernel_text.specs.declared.fault.TextCause.TheVariants.{BadNumber,
 use Rattle.st_kernel_text.specs.declared.value.Value.{Value}
 use Rattle.st_kernel_text.specs.declared.value.Value.TheVariants.{Number, Text}
 
--- the text behind an `@` is a date, whose seconds are d
+-- the text after an `@` is a date, whose seconds are d
 pub record ReadsDate (text : List ℕ) (d : Dec) : Type 0 where
   pub instant : ℤ
   pub reads : ReadsAtDate text (Ok instant)
@@ -60,6 +60,6 @@ abbrev pub Spells : Value → List ℕ → Type 0
 Spells (Number d) text = SpellsRun d text
 Spells (Text content) text = SpellsText content text
 
--- what may stand directly behind a value: a separator or `)`
+-- what may stand directly after a value: a separator or `)`
 abbrev pub may_follow : ℕ → Bool
 may_follow b = is_separator b || (b == close_paren)

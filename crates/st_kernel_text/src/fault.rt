@@ -29,11 +29,11 @@ pub enum TextCause {
     /// No `=` and no `+=` follows a name on its line.
     #[error("no sign")]
     NoSign,
-    /// A list is empty, or behind a sign the data end or a `)` stands.
+    /// A list is empty, or after a sign the data end or a `)` stands.
     #[error("no value")]
     NoValue,
     /// What stands where a value is due is neither a string nor a date nor a number, or a number
-    /// has more than 30 digits, an exponent outside -400 to 400, or a `(` or `'` directly behind
+    /// has more than 30 digits, an exponent outside -400 to 400, or a `(` or `'` directly after
     /// it.
     #[error("no number")]
     BadNumber,

@@ -17,7 +17,7 @@ use std::alloc::Global;
 #[derive(Debug, Drop)]
 pub struct Reading {
     pub kernel: Kernel,
-    /// The bytes behind the last line feed.
+    /// The bytes after the last line feed.
     pub begun: KText,
     /// The number of the line that is begun.
     pub number: u64,

@@ -34,7 +34,7 @@ fn push_name(p: &mut Parser, byte: u8) -> Result<(), TextFault>
     Ok(())
 }
 
-/// A byte behind the first of a name.
+/// A byte after the first of a name.
 pub fn on_name(p: &mut Parser, line: u64, byte: u8) -> Result<(), TextFault>
     ensures { Gives p.new result (machine.name_of p.old line byte) }
 {
@@ -47,7 +47,7 @@ pub fn on_name(p: &mut Parser, line: u64, byte: u8) -> Result<(), TextFault>
     }
 }
 
-/// A `=` behind a name's last byte `+`, which is the sign's.
+/// A `=` after a name's last byte `+`, which is the sign's.
 fn end_added(p: &mut Parser, line: u64) -> Result<(), TextFault>
     ensures { Gives p.new result (machine.added_of p.old line) }
 {
@@ -68,7 +68,7 @@ fn end_name(p: &mut Parser, line: u64, byte: u8) -> Result<(), TextFault>
     on_named(p, line, byte)
 }
 
-/// A byte behind a name.
+/// A byte after a name.
 pub fn on_named(p: &mut Parser, line: u64, byte: u8) -> Result<(), TextFault>
     ensures { Gives p.new result (machine.named_of p.old line byte) }
 {
@@ -84,7 +84,7 @@ pub fn on_named(p: &mut Parser, line: u64, byte: u8) -> Result<(), TextFault>
     Ok(())
 }
 
-/// A byte behind a `+` that is not a name's.
+/// A byte after a `+` that is not a name's.
 pub fn on_plus(p: &mut Parser, line: u64, byte: u8) -> Result<(), TextFault>
     ensures { Gives p.new result (machine.plus_of p.old line byte) }
 {

@@ -11,7 +11,7 @@ use st_decimal::{Dec, read_dec};
 /// The most bytes that a number may have; no line has more.
 const MOST_BYTES: usize = 1000;
 
-/// The number that a run of bytes spells, or the seconds of a date behind an `@`.
+/// The number that a run of bytes spells, or the seconds of a date after an `@`.
 #[tactic(auto, unfolding(crate::specs::ValueMachine::number_of_run))]
 pub fn read_run(run: &[u8]) -> Option<Dec>
     ensures { result ≡ spec.number_of_run run.now }

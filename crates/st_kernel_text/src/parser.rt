@@ -17,9 +17,9 @@ pub enum Stage {
     Fresh,
     /// In a name.
     Name,
-    /// In the blanks behind a name.
+    /// In the blanks after a name.
     Named,
-    /// Behind a `+` that is not a name's.
+    /// After a `+` that is not a name's.
     Plus,
     /// Between a sign and its value.
     Signed,
@@ -29,9 +29,9 @@ pub enum Stage {
     Run,
     /// In a string.
     Quoted,
-    /// Behind a `'` in a string, which ends it or is the first of two.
+    /// After a `'` in a string, which ends it or is the first of two.
     Quote,
-    /// Behind the last value of an assignment.
+    /// After the last value of an assignment.
     Closed,
 }
 
@@ -69,7 +69,7 @@ impl Parser {
         }
     }
 
-    /// Keeps the assignment that is at its end, and begins anew behind it.
+    /// Keeps the assignment that is at its end, and begins anew after it.
     pub fn keep(&mut self) -> Result<(), TextFault>
         ensures { Gives self.new result (Ok (machine.kept self.old)) }
     {

@@ -17,7 +17,7 @@ use std::alloc::Global;
 /// # Errors
 ///
 /// The first fault and its line, counted from 1 over the whole file. In each line its length comes
-/// first, then, in data, its bytes, then its tokens from left to right. That the data end behind a
+/// first, then, in data, its bytes, then its tokens from left to right. That the data end after a
 /// sign or in a list comes last, with the line of the sign or of the `(`. `OutOfMemory` where
 /// memory is refused.
 pub fn read_kernel(alloc: Global, bytes: &[u8]) -> Result<AssignmentList, TextFault>

@@ -127,7 +127,7 @@ fn push_quoted(p: &mut Parser, line: u64, byte: u8) -> Result<(), TextFault>
     Ok(())
 }
 
-/// A byte behind a `'` in a string.
+/// A byte after a `'` in a string.
 pub fn on_quote(p: &mut Parser, line: u64, byte: u8) -> Result<(), TextFault>
     ensures { Gives p.new result (machine.quote_of p.old line byte) }
 {
@@ -148,7 +148,7 @@ fn end_quoted(p: &mut Parser, line: u64, byte: u8) -> Result<(), TextFault>
     put(p, Value::Text(text), line, byte)
 }
 
-/// Takes a value, and the byte behind it.
+/// Takes a value, and the byte after it.
 #[tactic(auto, unfolding(crate::specs::ParserMachine::put_of))]
 fn put(p: &mut Parser, value: Value, line: u64, byte: u8) -> Result<(), TextFault>
     ensures { Gives p.new result (machine.put_of p.old value line byte) }
@@ -180,7 +180,7 @@ fn is_same_kind(a: &Value, b: &Value) -> bool
     }
 }
 
-/// The byte behind a value.
+/// The byte after a value.
 fn after(p: &mut Parser, line: u64, byte: u8) -> Result<(), TextFault>
     ensures { Gives p.new result (machine.after_of p.old line byte) }
 {
@@ -196,7 +196,7 @@ fn after(p: &mut Parser, line: u64, byte: u8) -> Result<(), TextFault>
     }
 }
 
-/// A byte behind the last value of an assignment.
+/// A byte after the last value of an assignment.
 pub fn on_closed(p: &mut Parser, line: u64, byte: u8) -> Result<(), TextFault>
     ensures { Gives p.new result (machine.closed_of p.old line byte) }
 {

@@ -228,7 +228,7 @@ next_answer numbers pairs count date x on = elim (told_count count) [
       | inr none ↦ on q (one_more numbers pairs count date q x c d (λ p l. absurd (no_last pairs p (omega arith) l)))
     ]
 
--- pairs behind those that are spelled
+-- pairs after those that are spelled
 answer_from : (left : ℕ) (numbers : List Dec) (pairs : List LeapPair) → HasLength (length numbers) → AreSpelled numbers pairs
     → length numbers ≡ 2 * (length pairs + left) → Answer numbers
 answer_from zero numbers pairs size spelled all =

@@ -123,7 +123,7 @@ first numbers n fault some earlier whole midnight rising last breaks = record { 
       | inr more ↦ absurd (omega arith)
     ]
 
--- the next pair, by the numbers that stand behind those that are spelled
+-- the next pair, by the numbers that stand after those that are spelled
 pub record IsNext (numbers : List Dec) (pairs : List LeapPair) (count date : Dec) : Type 0 where
   pub size : HasLength (length numbers)
   pub spelled : AreSpelled numbers pairs

@@ -26,7 +26,7 @@ pub record HasCount (numbers : List Dec) (n count : ℕ) : Type 0 where
   pub stands : slice_get numbers (2 * earlier) ≡ Some number
   pub is : IsCount number count
 
--- pair n has this date, behind its count
+-- pair n has this date, after its count
 pub record HasDay (numbers : List Dec) (n : ℕ) (day : ℤ) : Type 0 where
   pub earlier : ℕ
   pub nth : n ≡ earlier + 1

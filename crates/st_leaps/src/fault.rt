@@ -22,7 +22,7 @@ pub enum LeapFault {
     /// The pair's count is not whole, or lies outside 0 to 1,000.
     #[error("pair {0}: no count from 0 to 1,000")]
     NotWhole(u32),
-    /// The pair's date is no midnight from 1900-01-01 to 2100-01-01.
+    /// The pair's date is no midnight in the range of times.
     #[error("pair {0}: no midnight in the range")]
     NotMidnight(u32),
     /// The pair's date is not later than that of the pair before.

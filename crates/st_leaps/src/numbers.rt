@@ -32,7 +32,7 @@ pub(crate) fn test_length(numbers: &[Dec]) -> Result<(), LeapFault>
     }
 }
 
-/// The pair behind those that the numbers have spelled so far.
+/// The pair after those that the numbers have spelled so far.
 pub(crate) fn next_pair(numbers: &[Dec], pairs: &[LeapPair]) -> Result<LeapPair, LeapFault>
     requires size { HasLength (length numbers.now) }
     requires spelled { AreSpelled numbers.now pairs.now }

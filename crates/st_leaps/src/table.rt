@@ -19,7 +19,7 @@ use st_decimal::{Dec, OutOfMemory};
 use std::alloc::Global;
 
 /// A table of leap seconds: 1 to 1,000 pairs of a count and a date, with counts from 0 to 1,000
-/// and midnights from 1900-01-01 to 2100-01-01, where each date is later than the one before, and
+/// and midnights in the range of times, where each date is later than the one before, and
 /// each count one more or one less. The limits are this project's own.
 ///
 /// Source: the header of NAIF's leapseconds kernels, and Time Required Reading.

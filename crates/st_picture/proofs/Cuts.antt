@@ -6,7 +6,7 @@ use Rattle.st_picture.specs.Mark.{stem_of, hashes, places_of, piece_text, spelle
 use Rattle.st_picture.specs.ReadingMachine.{front_of}
 use Rattle.st_picture.proofs.Fronts.{front_begins, front_longest, one_front, stem_some, same_rests}
 
--- each piece is the longest at its place, where a text stands behind them all
+-- each piece is the longest at its place, where a text stands after them all
 abbrev pub CutsTo : List Piece → List ℕ → Type 0
 CutsTo [] rest = Unit {0}
 CutsTo (piece ∷ pieces) rest = IsLongest piece (spelled (piece ∷ pieces) ++ rest) × CutsTo pieces rest

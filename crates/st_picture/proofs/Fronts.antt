@@ -189,7 +189,7 @@ among_stems q (Scale Tdt) h = list_any_at q stems 27 Year (lit< tt) h
 among_stems q Round h = list_any_at q stems 28 Year (lit< tt) h
 among_stems q Truncate h = list_any_at q stems 29 Year (lit< tt) h
 
--- no stem begins one that stands behind it in the list
+-- no stem begins one that stands after it in the list
 abbrev ordered : List Mark → Bool
 ordered [] = true
 ordered (mark ∷ marks) = list_all (λ other. not (starts_with nat_eq (stem_of other) (stem_of mark))) marks && ordered marks

@@ -68,7 +68,7 @@ same_fault system text pieces (BadByte i) (BadByte j) e h k = ap BadByte (same_p
 same_fault system text pieces (BadByte i) g e h k = absurd (omega arith)
 same_fault system text pieces f g e h k = same_rule f g (lit≤ tt) e
 
--- two marks that stand in the pieces are one, or stand behind one another
+-- two marks that stand in the pieces are one, or stand after one another
 record AreTwo (pieces : List Piece) (m n : Mark) : Type 0 where
   before : List Piece
   between : List Piece

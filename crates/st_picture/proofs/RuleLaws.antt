@@ -38,7 +38,7 @@ pub both_true : (a b : Bool) → a ≡ true → b ≡ true → (a && b) ≡ true
 both_true true b h k = k
 both_true false b h k = absurd (cc)
 
--- a piece of a list that passes a test, and what stands before and behind it
+-- a piece of a list that passes a test, and what stands before and after it
 pub record HasPiece (p : Piece → Bool) (pieces : List Piece) : Type 0 where
   pub before : List Piece
   pub piece : Piece

@@ -1,4 +1,4 @@
--- Cells that can be printed: those of times from 1800 to 2200, and all counts.
+-- Cells that can be printed: those of times in the range and a little beyond, and all counts.
 use Rattle.std.specs.Prelude.{◌≤◌, ℤ, pos, neg_ℤ, ◌≤ℤ◌, ◌<ℤ◌, ⊤}
 use Rattle.st_picture.specs.declared.cell.Cell.{Cell}
 use Rattle.st_picture.specs.declared.cell.Cell.TheVariants as cells

@@ -62,7 +62,7 @@ EachHasCut = (text : List ℕ) → (pieces : List Piece) × IsCut text pieces
 abbrev pub OneCut : Type 0
 OneCut = (text : List ℕ) (a b : List Piece) → IsCut text a → IsCut text b → a ≡ b
 
--- A text has one answer as a picture for a system, where memory is not refused.
+-- A text has at most one answer as a picture for a system, where memory is not refused.
 abbrev pub OneReading : Type 0
 OneReading =
     (system : System) (text : List ℕ) (a b : Result Picture PictureFault) → ReadsPicture system text a → ReadsPicture system text b → Agree a b
@@ -89,7 +89,7 @@ OneTextOfValue =
     (system : System) (text : List ℕ) (picture : Picture) (leaps : Option LeapTable) (v : Fraction) (a b : List ℕ) → ReadsPicture system text (Ok picture)
     → IsFraction v → HasText picture leaps v a → HasText picture leaps v b → a ≡ b
 
--- The two default pictures are pictures; that of seconds is none of UTC.
+-- The two default pictures are pictures, that of seconds for the systems other than UTC.
 abbrev pub DefaultsAreRead : Type 0
 DefaultsAreRead =
     ((system : System) → (picture : Picture) × ReadsPicture system calendar_picture (Ok picture))

@@ -62,7 +62,7 @@ pub record IsLeastUnit (pieces : List Piece) (unit : LeastUnit) : Type 0 where
   pub prints : unit_of mark ≡ Some unit
   pub finest : (other : Mark) (wider : LeastUnit) → Stands pieces other → unit_of other ≡ Some wider → coarseness unit ≤ coarseness wider
 
--- The picture asks for rounding: `::RND` stands in it, and no `::TRNC` behind that. Without either, times are truncated.
+-- The picture asks for rounding: `::RND` stands in it, and no `::TRNC` after that. Without either, times are truncated.
 pub record AsksToRound (pieces : List Piece) : Type 0 where
   pub before : List Piece
   pub after : List Piece

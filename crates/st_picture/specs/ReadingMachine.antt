@@ -18,7 +18,7 @@ use Rattle.st_picture.specs.Mark.{stem_of, places_of, spelled}
 use Rattle.st_picture.specs.Picture.{unit_of, coarseness}
 use Rattle.st_picture.specs.Reading.{left_out}
 
--- all marks without decimals; one whose letters begin another's stands behind it
+-- all marks without decimals; one whose letters begin another's stands after it
 abbrev pub stems : List Mark
 stems =
     Year ∷ Month ∷ MonthName Upper ∷ MonthName Capital ∷ MonthName Lower ∷ MonthShort Upper ∷ MonthShort Capital ∷ MonthShort Lower
@@ -38,7 +38,7 @@ first_stem text = find (has_stem text) stems
 abbrev pub hashes_at : List ℕ → ℕ
 hashes_at text = prefix_len (λ b. b == 35) text
 
--- the decimals for which a text asks that stands behind a stem
+-- the decimals for which a text asks that stands after a stem
 abbrev pub places_behind : List ℕ → ℕ
 places_behind [] = 0
 places_behind (b ∷ text) = if b == 46 then hashes_at text else 0
@@ -143,7 +143,7 @@ abbrev pub least_of : Option LeastUnit → List Piece → Option LeastUnit
 least_of unit [] = unit
 least_of unit (piece ∷ pieces) = least_of (finer_of unit (piece_unit piece)) pieces
 
--- whether times are rounded, behind a piece
+-- whether times are rounded, after a piece
 abbrev pub rounds_by : Bool → Piece → Bool
 rounds_by before (Marked Round) = true
 rounds_by before (Marked Truncate) = false

@@ -1,4 +1,5 @@
--- The text of a cell: the picture with what its marks print. Source: Time Required Reading, on time pictures.
+-- The text of a cell: the picture with what its marks print. Source: Time Required Reading, on time pictures;
+-- the two digits of `AP` are this project's own.
 use Rattle.std.specs.Prelude.{◌≡◌, ℕ, ◌+◌, ◌-◌, ◌*◌, ◌/◌, ◌%◌, ◌^◌, ◌<◌, ◌≤◌, ◌⊎◌, nat_lt, ℤ, pos, unsigned_abs, List, [], ◌∷◌, ◌++◌, take, codes, if◌then◌else◌}
 use Rattle.std.specs.List.{flat_map}
 use Rattle.st_text.specs.Bytes.{padded}

@@ -24,7 +24,7 @@ pub(crate) fn cut(alloc: Global, text: &[u8]) -> Result<Vec<Piece>, OutOfMemory>
     Ok(pieces)
 }
 
-/// The piece with which a text begins, and the text behind it.
+/// The piece with which a text begins, and the text after it.
 fn first_piece(text: &[u8]) -> (Piece, &[u8])
     requires some { 0 < length text.now }
     requires few { length text.now ≤ 255 }

@@ -8,7 +8,7 @@ ghost use Rattle.st_picture.specs.ReadingMachine as machine;
 
 use crate::mark::{Case, Mark, Piece, ScaleMark};
 
-/// All marks without decimals; one whose letters begin another's stands behind it.
+/// All marks without decimals; one whose letters begin another's stands after it.
 const STEMS: [Mark; 30] = [
     Mark::Year,
     Mark::Month,
@@ -136,7 +136,7 @@ fn with_places(mark: Mark, places: u32) -> Mark
     }
 }
 
-/// The decimals for which a text asks that stands behind a mark's letters.
+/// The decimals for which a text asks that stands after a mark's letters.
 fn places_behind(text: &[u8]) -> u32
     requires { length text.now ≤ 255 }
     ensures { result ≡ machine.places_behind text.now }

@@ -1,6 +1,6 @@
 //! The marks of time pictures, and what stands between them.
 
-/// How the letters of a name or of a half of the day are printed.
+/// How the letters of a name are printed.
 #[derive(Clone, Copy, Debug, PartialEq, Eq)]
 pub enum Case {
     /// All in upper case.

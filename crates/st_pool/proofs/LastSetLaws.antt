@@ -28,7 +28,7 @@ one-sets kernels (p ∷ more) (suc n) other h s = by (assignment_at kernels p) (
         either true e = refl
         either false e = e
 
--- a place whose assignment sets, behind which none does
+-- a place whose assignment sets, after which none does
 pub sets-here : (kernels : List Kernel) (places : List Place) (n : ℕ) (other : Place) → n < length places
     → is_set_at kernels (slice_index_or places n other) ≡ true → list_any is_set (assignments_at kernels (drop (suc n) places)) ≡ false
     → assignments_at kernels (drop n places) ≡ since_last_set (assignments_at kernels places)

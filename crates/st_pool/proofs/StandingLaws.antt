@@ -17,7 +17,7 @@ use Rattle.st_pool.specs.PoolMachine.{values_by, kind_at}
 use Rattle.st_pool.specs.Variable.{is_of, is_set, since_last_set, is_text, is_number, kind_of_values, loaded_values, loaded_kind}
 use Rattle.st_pool.proofs.PlacesLaws.{placed, numbered, standing}
 
--- a list behind its n-th item
+-- a list after its n-th item
 drop-head : {X : Type 0} (xs : List X) (n : ℕ) (x : X) (more : List X) → drop n xs ≡ x ∷ more → (slice_get xs n ≡ Some x) × (drop (n + 1) xs ≡ more)
 drop-head [] zero x more e = absurd (cc e)
 drop-head [] (suc n) x more e = absurd (cc e)

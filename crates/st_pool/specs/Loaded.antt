@@ -1,5 +1,5 @@
 -- The loaded list. Source: Kernel Required Reading, on loading and unloading kernels. That a kernel
--- is loaded behind all others, also where one of its name is loaded already, and that an unloading
+-- is loaded after all others, also where one of its name is loaded already, and that an unloading
 -- takes the last one of the name, is this project's own.
 use Rattle.std.specs.Prelude.{ℕ, Bool, bytes_eq, if◌then◌else◌, List, [], ◌∷◌, length}
 use Rattle.std.specs.List.{list_any, flat_map, sum_by}

@@ -23,7 +23,7 @@ is_set a = sets a.mode
 abbrev pub is_of : List ℕ → Assignment → Bool
 is_of name a = bytes_eq a.name name
 
--- the last assignment that sets the values and those behind it; all of them where none sets them
+-- the last assignment that sets the values and those after it; all of them where none sets them
 abbrev pub since_last_set : List Assignment → List Assignment
 since_last_set [] = []
 since_last_set (a ∷ more) = if list_any is_set more then since_last_set more else a ∷ more

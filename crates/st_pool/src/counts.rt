@@ -6,7 +6,7 @@ ghost use Rattle.st_pool.specs.Loaded.{value_count as count_of};
 
 use st_kernel_text::Assignment;
 
-/// What is left of the room for values behind these assignments; none where they have more values.
+/// What is left of the room for values after these assignments; none where they have more values.
 pub fn room_after(room: usize, assignments: &[Assignment]) -> Option<usize>
     ensures none { IsNone result ↔ (room < count_of assignments.now) }
     ensures some { IfSome result (λ left. count_of assignments.now + left ≡ room) }

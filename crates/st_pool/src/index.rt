@@ -38,7 +38,7 @@ impl Index {
         }
     }
 
-    /// Adds the assignments of the kernel with this number, behind all others. Where memory is
+    /// Adds the assignments of the kernel with this number, after all others. Where memory is
     /// refused, some of them may be added.
     pub fn add(
         &mut self,
@@ -83,7 +83,7 @@ impl Index {
     }
 }
 
-/// Adds a place behind those of the name.
+/// Adds a place after those of the name.
 fn add_place(
     index: &mut IndexMap<Vec<u8>, Vec<Place>>,
     alloc: Global,
@@ -114,7 +114,7 @@ fn take_out_of(places: &mut Vec<Place>, kernel: u32)
     lower_behind(places.as_mut_slice(), kernel);
 }
 
-/// Counts the kernels behind the one with this number one lower.
+/// Counts the kernels after the one with this number one lower.
 fn lower_behind(places: &mut [Place], kernel: u32)
     ensures { places.new ≡ map (machine.lowered kernel) places.old }
 {

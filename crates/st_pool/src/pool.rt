@@ -71,7 +71,7 @@ impl Pool {
         }
     }
 
-    /// Loads a kernel behind all others, also where one of its name is loaded already.
+    /// Loads a kernel after all others, also where one of its name is loaded already.
     ///
     /// # Errors
     ///
@@ -193,7 +193,7 @@ impl Pool {
     }
 }
 
-/// Loads a kernel behind the others. Where memory is refused, some of its assignments may stand in
+/// Loads a kernel after the others. Where memory is refused, some of its assignments may stand in
 /// the index.
 fn append(
     kernels: &mut Vec<Kernel>,

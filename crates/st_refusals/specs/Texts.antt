@@ -105,7 +105,7 @@ refusal_name AfterClock = codes "AFTER_CLOCK"
 refusal_name Undecided = codes "UNDECIDED"
 refusal_name NoMemory = []
 
--- its details, each behind a blank
+-- its details, each after a blank
 abbrev pub refusal_details : LineFault → List ℕ
 refusal_details (KernelText line cause) = (32 ∷ decimal_digits line) ++ (32 ∷ cause_text cause)
 refusal_details (NoVariable var) = 32 ∷ var_name var

@@ -72,7 +72,7 @@ pub enum LineFault {
     /// The calendar has no such day.
     #[error("no such day")]
     NoSuchDay,
-    /// The time lies before 1900-01-01 00:00 or after 2100-01-01 00:00.
+    /// The time lies outside the range of times.
     #[error("out of range")]
     OutOfRange,
     /// The day has no such second.
@@ -84,7 +84,7 @@ pub enum LineFault {
     /// The time or the tick is before the clock's first record.
     #[error("before the clock")]
     BeforeClock,
-    /// The tick nearest to the time is behind the clock's last partition.
+    /// The tick nearest to the time is after the clock's last partition.
     #[error("after the clock")]
     AfterClock,
     /// Two bounds of the exact value, at most 10^-12 s apart, have different cells or ticks.

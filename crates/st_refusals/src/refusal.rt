@@ -14,7 +14,7 @@ use st_scales::{DeltetFault, DeltetVar};
 use st_tables::put_name;
 use st_ticks::{ClockTextFault, ClockWhy, Var};
 
-/// Appends the text of a refusal, which isn't want of memory: its name, and its details behind it, each after one
+/// Appends the text of a refusal, which isn't want of memory: its name, and its details after it, each after one
 /// blank.
 ///
 /// # Errors
@@ -86,7 +86,7 @@ fn put_details(out: &mut Vec<u8>, fault: LineFault) -> Result<(), OutOfMemory>
     }
 }
 
-/// Appends a word behind a blank.
+/// Appends a word after a blank.
 fn put_word(out: &mut Vec<u8>, word: &[u8]) -> Result<(), OutOfMemory>
     ensures { OnOk result (out.new.items ≡ out.old.items ++ (32 ∷ word.now)) }
 {
@@ -95,7 +95,7 @@ fn put_word(out: &mut Vec<u8>, word: &[u8]) -> Result<(), OutOfMemory>
     Ok(())
 }
 
-/// Appends a number behind a blank.
+/// Appends a number after a blank.
 fn put_number(out: &mut Vec<u8>, number: u64) -> Result<(), OutOfMemory>
     ensures { OnOk result (out.new.items ≡ out.old.items ++ (32 ∷ decimal_digits number)) }
 {
@@ -103,7 +103,7 @@ fn put_number(out: &mut Vec<u8>, number: u64) -> Result<(), OutOfMemory>
     put_fixed(out, i128::from(number), 0)
 }
 
-/// Appends the name of a variable behind a blank.
+/// Appends the name of a variable after a blank.
 fn put_variable(out: &mut Vec<u8>, var: Var) -> Result<(), OutOfMemory>
     ensures { OnOk result (out.new.items ≡ out.old.items ++ (32 ∷ var_name var)) }
 {

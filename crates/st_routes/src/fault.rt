@@ -12,13 +12,13 @@ pub enum TimeFault {
     /// The text has none of the forms of times that are taken.
     #[error("no time")]
     BadTime,
-    /// The word behind the time names another system than the source.
+    /// The word after the time names another system than the source.
     #[error("a time of another system")]
     WrongSystem,
     /// The calendar has no such day.
     #[error("no such day")]
     NoSuchDay,
-    /// The time lies before 1900-01-01 00:00 or after 2100-01-01 00:00, as a text or as the time of a tick.
+    /// The time lies outside the range of times, as a text or as the time of a tick.
     #[error("out of range")]
     OutOfRange,
     /// The seconds are 60 in another minute than 23:59, or the day hasn't that second.
@@ -30,7 +30,7 @@ pub enum TimeFault {
     /// The tick of a source is before the clock's first record, or the time of a target is.
     #[error("before the clock's first record")]
     BeforeClock,
-    /// The time is behind the clock's last tick.
+    /// The time is after the clock's last tick.
     #[error("after the clock's last tick")]
     AfterClock,
     /// Two bounds of the exact value, at most 10^-12 s apart, are printed differently.

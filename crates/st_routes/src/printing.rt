@@ -114,7 +114,7 @@ fn enclosed(time: Point) -> Enc
 ///
 /// # Errors
 ///
-/// `BeforeClock` where the time is before the clock's first record, `AfterClock` where its nearest tick is behind the last
+/// `BeforeClock` where the time is before the clock's first record, `AfterClock` where its nearest tick is after the last
 /// partition; `Undecided`, only where a sine stands on the way and two bounds of the exact value, at most 10^-12 s apart, have
 /// different ticks; or want of memory.
 pub fn print_tick(

@@ -495,7 +495,7 @@ fn refuses_texts(rt: HostRuntime) -> Result<(), Fail> {
             TimeFault::WrongSystem,
         ),
         (System::Utc, "1996-02-30", TimeFault::NoSuchDay),
-        (System::Utc, "1899-12-31T23:59:59", TimeFault::OutOfRange),
+        (System::Utc, "1799-12-31T23:59:59", TimeFault::OutOfRange),
         (System::Utc, "2015-12-31T23:59:60", TimeFault::NoSuchSecond),
         (System::Tai, "2016-12-31T23:59:60", TimeFault::NoSuchSecond),
         (System::Utc, "2016-12-31T12:00:60", TimeFault::NoSuchSecond),

@@ -80,8 +80,8 @@ fn read_string(text: &[u8], face: &Face) -> Result<u64, ClockTextFault>
 ///
 /// # Errors
 ///
-/// `BeforeClock` exactly where the tick is before the first record's, and `OutOfRange` exactly where the time lies before
-/// 1900-01-01 00:00 or after 2100-01-01 00:00.
+/// `BeforeClock` exactly where the tick is before the first record's, and `OutOfRange` exactly where the time lies
+/// outside the range of times.
 pub fn tick_time(clock: &Clock, tick: u64) -> Result<Point, TimeFault>
     ensures gives { TimeGives clock.now tick result }
     // No other answer meets it.

@@ -181,7 +181,7 @@ fn sessions(rt: HostRuntime) -> Result<(), Fail> {
     Ok(())
 }
 
-/// A batch from TAI to UTC: the words behind these, the input, and the whole output.
+/// A batch from TAI to UTC: the words after these, the input, and the whole output.
 type FromTai = (&'static [&'static str], &'static str, &'static str);
 
 /// Around a second that is removed, which isn't printed, and into which nothing is rounded.

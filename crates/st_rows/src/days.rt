@@ -25,7 +25,7 @@ const LABELS: &[u8] = b"2016-12-31T23:59:59.9996
 2017 MAR 1 06:30
 ";
 
-/// A command without the program's name: its words behind those of the setup, its input, the whole output, and its status.
+/// A command without the program's name: its words after those of the setup, its input, the whole output, and its status.
 type Step = (
     &'static [&'static str],
     &'static [u8],

@@ -10,6 +10,8 @@ mod conversions;
 #[cfg(test)]
 mod days;
 #[cfg(test)]
+mod range;
+#[cfg(test)]
 mod refusals;
 #[cfg(test)]
 mod samples;

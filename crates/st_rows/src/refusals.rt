@@ -14,8 +14,8 @@ const NO_TIMES: [(&str, &str); 8] = [
     ("2000-01-01T24:00:00", "refused BAD_TIME\n"),
     ("2015-12-31T23:59:60", "refused NO_SUCH_SECOND\n"),
     ("1900-02-29T00:00:00", "refused NO_SUCH_DAY\n"),
-    ("1899-12-31T23:59:59", "refused OUT_OF_RANGE\n"),
-    ("2100-01-01T00:00:01", "refused OUT_OF_RANGE\n"),
+    ("1799-12-31T23:59:59", "refused OUT_OF_RANGE\n"),
+    ("2200-01-01T00:00:01", "refused OUT_OF_RANGE\n"),
 ];
 
 #[test]

@@ -125,7 +125,7 @@ one-list job loaded seed i (x ∷ a) (y ∷ b) e h k =
 pub one-sample : OneSample
 one-sample job loaded n seed lines other h k = one-list job loaded seed 1 lines other (h.0 ∙ sym k.0) h.1 k.1
 
--- a line is made behind others
+-- a line is made after others
 more-lines : (job : Job) (loaded : Loaded) (seed i n : ℕ) (lines : List (List ℕ)) (line : List ℕ) → n ≡ i + length lines → AreLinesFrom job loaded seed i lines
     → IsLineBy job.form job loaded (x_of seed n) line → AreLinesFrom job loaded seed i (lines ++ line ∷ [])
 more-lines job loaded seed i n [] line e h k = (subst (λ (m : ℕ). IsLineBy job.form job loaded (x_of seed m) line) (omega (arith, e)) k, tt)
@@ -156,7 +156,7 @@ pub no-clock-line : {E : Type 0} (r : Result (List ℕ) E) (job : Job) (loaded :
 no-clock-line (Ok line) job loaded form x n fault is given (not, e) = (n, Err fault, is, given, zero-line fault form x line not e)
 no-clock-line (Err error) job loaded form x n fault is given h = tt
 
--- digits and what stands behind them begin with a digit
+-- digits and what stands after them begin with a digit
 some-digit : (width n : ℕ) → 1 ≤ width → 1 ≤ length (padded width n)
 some-digit width n some = simp (length-append, length-replicate, length-map) (omega (arith, some))
 

@@ -15,7 +15,7 @@ x_of seed (suc i) = next_of (x_of seed i)
 abbrev pub seconds : ℕ → ℕ
 seconds x = x / 2 ^ 20 % 2 ^ 31
 
--- and the milliseconds behind them
+-- and the milliseconds after them
 abbrev pub milliseconds : ℕ → ℕ
 milliseconds x = x / 2 ^ 8 % 1_000
 

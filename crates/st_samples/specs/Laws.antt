@@ -60,7 +60,7 @@ OneSample =
     (job : Job) (loaded : Loaded) (n seed : ℕ) (lines other : List (List ℕ))
     → AreSampleLines job loaded n seed lines → AreSampleLines job loaded n seed other → lines ≡ other
 
--- A sample of one line more has it behind the others.
+-- A sample of one line more has it after the others.
 abbrev pub LinesGoOn : Type 0
 LinesGoOn =
     (job : Job) (loaded : Loaded) (n seed : ℕ) (lines : List (List ℕ)) (line : List ℕ)

@@ -34,7 +34,7 @@ pub(crate) fn seconds(x: u64) -> u64
     (x >> 20) % (1 << 31)
 }
 
-/// The milliseconds behind its whole seconds.
+/// The milliseconds after its whole seconds.
 pub(crate) fn milliseconds(x: u64) -> u64
     ensures value { result ≡ generator.milliseconds x }
     ensures below { result < 1_000 }

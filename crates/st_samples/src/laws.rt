@@ -28,7 +28,7 @@ pub fn one_sample()
     ensures { OneSample }
 {}
 
-/// A sample of one line more has it behind the others.
+/// A sample of one line more has it after the others.
 pub fn lines_go_on()
     ensures { LinesGoOn }
 {}

@@ -85,7 +85,7 @@ fn label_text(alloc: Global, date: Civil, passed: u32) -> Result<Line, OutOfMemo
     Ok(Line::from_vec(out))
 }
 
-/// Appends a date as `YYYY-MM-DD`, and the `T` behind it.
+/// Appends a date as `YYYY-MM-DD`, and the `T` after it.
 fn put_date(out: &mut Vec<u8>, date: Civil) -> Result<(), OutOfMemory>
     ensures { OnOk result (out.new.items ≡ out.old.items ++ (date_text date ++ letter_t ∷ [])) }
 {

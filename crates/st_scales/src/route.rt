@@ -129,7 +129,7 @@ mod tests {
     // Each row has a time t; TDB of the TT value t, less t; and TT of the TDB value t, less t: in parts of 10^-24 s, by mpmath
     // at ninety digits.
 
-    // Times from 1800 to 2200, at the constants of the usual leapseconds kernel.
+    // Times in the range, at its ends and a little beyond, at the constants of the usual leapseconds kernel.
     const USUAL: [(i128, i128, i128); 27] = [
         (
             -6_311_391_400_000_000_000_000_000_000,

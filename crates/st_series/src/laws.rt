@@ -2,7 +2,7 @@
 
 ghost use Rattle.st_series.specs.Laws.{SineOverOne, CosineOverOne, AtZero, AtOne, SineSandwich, CosineSandwich, LongEnoughStays, SineInOrder, CosineInOrder, Vanishing, LongEnoughExists, SineNarrow, CosineNarrow, SineAgrees, CosineAgrees, SineAddition, CosineAddition, SineBound, CosineBound, SineLipschitz, CosineLipschitz};
 
-/// What the partial sums are: one numerator over one denominator, and their values at 0 and at 1.
+/// What the partial sums are: one numerator over one denominator, and their values at 0, and at 1 the first three.
 pub fn partial_sums()
     ensures sine_over_one { SineOverOne }
     ensures cosine_over_one { CosineOverOne }

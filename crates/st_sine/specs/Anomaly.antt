@@ -1,6 +1,6 @@
 -- The sine in the formula for TDB, after the header of a leapseconds kernel: TDB = TT + K sin E, with E = M + EB sin M and
--- M = M0 + M1 t. That t is TT, in seconds past J2000, is this project's choice; the header takes ephemeris time. EB, M0
--- and M1 are given in units of 10^-18.
+-- M = M0 + M1 t. That t is TT, in seconds past J2000, is this project's choice. EB, M0 and M1 are given in units of
+-- 10^-18.
 use Rattle.std.specs.Prelude.{ℕ, ℤ}
 use Rattle.st_fraction.specs.Fraction.{Fraction, ◌≤ᶠ◌, units, ◌+ᶠ◌, ◌-ᶠ◌, ◌*ᶠ◌}
 use Rattle.st_series.specs.Series.{IsLongEnough, sine_lower, sine_upper}

@@ -75,7 +75,7 @@ mod tests {
         }
     }
 
-    // Times from 1800 to 2200, at the constants of the usual leapseconds kernel.
+    // Times in the range, at its ends and a little beyond, at the constants of the usual leapseconds kernel.
     const USUAL: [(i128, i128); 21] = [
         (
             -6_311_500_000_000_000_000_000_000_000,

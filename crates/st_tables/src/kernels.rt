@@ -91,7 +91,7 @@ impl Kernels {
         &self.pool
     }
 
-    /// Loads a kernel behind all others, also where one of its name is loaded already. No table is then found.
+    /// Loads a kernel after all others, also where one of its name is loaded already. No table is then found.
     ///
     /// # Errors
     ///

@@ -74,7 +74,7 @@ fn name(text: &str) -> Name
     name
 }
 
-/// A name with a number behind it.
+/// A name with a number after it.
 fn numbered(front: &str, n: u32) -> Name
     requires { length front.now ≤ 21 }
     ensures { result.bytes ≡ front.now ++ decimal n }

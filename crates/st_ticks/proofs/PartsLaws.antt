@@ -19,7 +19,7 @@ some_digits d h = grind (arith, nat_tests)
 no_digits : (n : ℕ) → 0 < n → (n == 0) ≡ false
 no_digits n h = grind (arith, nat_tests)
 
--- what is behind a slash
+-- what is after a slash
 slash_parts : (t u : List ℕ) → past_slash t ≡ Some u → (after : List ℕ) × (are_blanks after ≡ true) × (t ≡ 47 ∷ (after ++ u))
 unfolding past_slash
 slash_parts [] u e = absurd (cc)

@@ -34,7 +34,7 @@ rest_is_one (m ∷ ms) [] gs h k = absurd h
 rest_is_one (m ∷ ms) (f ∷ fs) [] h k = absurd k
 rest_is_one (m ∷ ms) (f ∷ fs) (g ∷ gs) h k = span_is_one ms fs gs h.3 k.3
 
--- the moduli behind the first, as the code cuts them
+-- the moduli after the first, as the code cuts them
 abbrev pub rest_of : List Dec → List Dec
 rest_of ms = take (length ms - 1) (drop 1 ms)
 

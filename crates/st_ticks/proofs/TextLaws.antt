@@ -92,7 +92,7 @@ fields_start (d ∷ []) t h = subst (λ (u : List ℕ). Starts u) (sym (h.1 ∙ 
     nothing_more (b ∷ e) = ap (λ (u : List ℕ). b ∷ u) (nothing_more e)
 fields_start (d ∷ e ∷ others) t h = subst (λ (u : List ℕ). Starts u) (sym h.5) (run_starts d (h.0 ++ h.1) h.2)
 
--- what is behind a mark
+-- what is after a mark
 mark_parts : (t u : List ℕ) → past_mark t ≡ Some u → (mark : ℕ) × (after : List ℕ) × (is_mark mark ≡ true) × (are_blanks after ≡ true) × (t ≡ mark ∷ (after ++ u))
 unfolding past_mark
 mark_parts [] u e = absurd (cc)
@@ -253,7 +253,7 @@ more_at d t u h p = record {
   rest = ap past_separator (behind-at is_ascii_digit d t h.digits p.stops) ∙ p.passed;
 }
 
--- a text of fields and of blanks behind them
+-- a text of fields and of blanks after them
 pub record Fielded (fields : List (List ℕ)) (text : List ℕ) : Type 0 where
   pub body : List ℕ
   pub back : List ℕ

@@ -9,7 +9,7 @@ use Rattle.st_ticks.specs.declared.field.Field.{Field}
 abbrev pub field_text : Field → List Field → ℕ → List ℕ
 field_text f fs n = padded (width f) (f.offset + n / span fs)
 
--- fields that stand behind others
+-- fields that stand after others
 unfoldable pub more_text : ℕ → List Field → ℕ → List ℕ
 more_text delimiter [] n = []
 more_text delimiter (f ∷ fs) n = delimiter ∷ (field_text f fs n ++ more_text delimiter fs (n % span fs))

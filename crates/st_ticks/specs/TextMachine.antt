@@ -1,21 +1,21 @@
--- How a clock string is read: its partition, then one field after the other, each with the separator behind it.
+-- How a clock string is read: its partition, then one field after the other, each with the separator after it.
 use Rattle.std.specs.Prelude.{ℕ, zero, suc, ◌==◌, List, [], ◌∷◌, length, Option, Some, None, if◌then◌else◌}
 use Rattle.st_text.specs.Bytes.{is_blank, are_blanks}
 use Rattle.st_text.specs.Lines.{skip_blanks}
 use Rattle.st_text.specs.Scan.{◌>>=◌, leading_digits, past_digits}
 use Rattle.st_ticks.specs.ClockText.{is_mark, Parts}
 
--- what is behind a mark, and the blanks after it, with which a text begins
+-- what is after a mark, and the blanks after it, with which a text begins
 unfoldable pub past_mark : List ℕ → Option (List ℕ)
 past_mark [] = None
 past_mark (b ∷ t) = if is_mark b then Some (skip_blanks t) else None
 
--- what is behind blanks with which a text begins
+-- what is after blanks with which a text begins
 unfoldable pub past_gap : List ℕ → Option (List ℕ)
 past_gap [] = None
 past_gap (b ∷ t) = if is_blank b then Some (skip_blanks t) else None
 
--- what is behind a separator with which a text begins
+-- what is after a separator with which a text begins
 unfoldable pub past_separator : List ℕ → Option (List ℕ)
 past_separator text =
     elim (past_mark (skip_blanks text)) as (λ _. Option (List ℕ)) [ Some rest ↦ Some rest | None ↦ past_gap text ]
@@ -55,12 +55,12 @@ runs_of (suc n) text = runs_from (runs_of n) (next_of text)
 abbrev pub runs : List ℕ → Option (List (List ℕ))
 runs text = runs_of (length text) text
 
--- what is behind a `/`, and the blanks after it, with which a text begins
+-- what is after a `/`, and the blanks after it, with which a text begins
 unfoldable pub past_slash : List ℕ → Option (List ℕ)
 past_slash [] = None
 past_slash (b ∷ t) = if b == 47 then Some (skip_blanks t) else None
 
--- the digits of the partition with which a text begins, and what is behind its `/`
+-- the digits of the partition with which a text begins, and what is after its `/`
 unfoldable pub partition_in : List ℕ → Option (List ℕ × List ℕ)
 partition_in text =
     if length (leading_digits text) == 0 then None

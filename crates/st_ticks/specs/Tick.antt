@@ -1,5 +1,6 @@
 -- Encoded ticks: their partition, and their canonical spelling. Source: SCLK Required Reading, on partitions and on
--- encoded clock strings; that a boundary of two partitions belongs to the later one is this project's own.
+-- encoded clock strings; that a boundary of two partitions belongs to the later one, and
+-- the canonical spelling, are this project's own.
 use Rattle.std.specs.Prelude.{◌≡◌, ℕ, suc, ◌+◌, ◌-◌, ◌/◌, ◌%◌, ◌<◌, ◌≤◌, List, [], ◌∷◌, ◌++◌, length, Some, slice_get}
 use Rattle.std.specs.List.{join_with_byte}
 use Rattle.st_text.specs.Bytes.{padded, decimal_digits}

@@ -14,7 +14,7 @@ fn is_mark(byte: u8) -> bool
     byte == b'.' || byte == b':' || byte == b'-' || byte == b','
 }
 
-/// What is behind the separator with which a text begins: a run of blanks, or a mark with or without
+/// What is after the separator with which a text begins: a run of blanks, or a mark with or without
 /// blanks around it.
 #[tactic(auto, unfolding(crate::specs::TextMachine::past_separator))]
 pub fn past_separator(text: &[u8]) -> Option<&[u8]>
@@ -46,7 +46,7 @@ fn past_gap(text: &[u8]) -> Option<&[u8]>
     }
 }
 
-/// What is behind the `/`, and the blanks after it, with which a text begins.
+/// What is after the `/`, and the blanks after it, with which a text begins.
 #[tactic(auto, unfolding(crate::specs::TextMachine::past_slash))]
 fn past_slash(text: &[u8]) -> Option<&[u8]>
     ensures { option_copied result ≡ machine.past_slash text.now }
@@ -57,7 +57,7 @@ fn past_slash(text: &[u8]) -> Option<&[u8]>
     }
 }
 
-/// The digits of the partition with which a text begins, and what is behind its `/`.
+/// The digits of the partition with which a text begins, and what is after its `/`.
 #[tactic(auto, unfolding(crate::specs::TextMachine::partition_in))]
 pub fn split_partition(text: &[u8]) -> Option<(&[u8], &[u8])>
     ensures value { MatchOption result (machine.partition_in text.now ≡ None)

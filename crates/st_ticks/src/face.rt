@@ -166,7 +166,8 @@ impl Face {
     /// partitions before the string's own, and those from that partition's start to its count.
     ///
     /// A string is a partition and a `/`, which may be left out, and one field or more, from the most
-    /// significant on. Between two fields stands a run of blanks, or one of `.`, `:`, `-` and `,`.
+    /// significant on. Between two fields stands a run of blanks, or one of `.`, `:`, `-` and `,`. Blanks
+    /// may stand around these marks and the `/`, and at both ends.
     ///
     /// # Errors
     ///

@@ -66,7 +66,7 @@ pub fn put_fields(
     }
 }
 
-/// Appends the fields of a count that stand behind others, each with the delimiter before it.
+/// Appends the fields of a count that stand after others, each with the delimiter before it.
 fn put_more_fields(
     out: &mut Vec<u8>,
     fields: &[Field],

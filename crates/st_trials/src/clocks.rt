@@ -3,8 +3,8 @@
 use st_outside::{FileMap, OutOfMemory};
 use std::alloc::Global;
 
-/// A setup file's name, its clock kernel's name, and what that kernel says behind the clock's data type.
-const CLOCKS: [(&str, &str, &str); 7] = [
+/// A setup file's name, its clock kernel's name, and what that kernel says after the clock's data type.
+const CLOCKS: [(&str, &str, &str); 8] = [
     // A count of seconds and of parts of 256.
     (
         "mission.setup",
@@ -17,6 +17,19 @@ const CLOCKS: [(&str, &str, &str); 7] = [
          SCLK_PARTITION_START_82 = ( 0.0000000000000E+00 )\n\
          SCLK_PARTITION_END_82   = ( 1.0995116277750E+12 )\n\
          SCLK01_COEFFICIENTS_82  = ( 0.0E+00 0.0E+00 1.0E+00 )\n",
+    ),
+    // The same with counts of two seconds, which reach beyond the range of times.
+    (
+        "fast.setup",
+        "fast.tsc",
+        "SCLK01_TIME_SYSTEM_82   = ( 1 )\n\
+         SCLK01_N_FIELDS_82      = ( 2 )\n\
+         SCLK01_MODULI_82        = ( 4294967296 256 )\n\
+         SCLK01_OFFSETS_82       = ( 0 0 )\n\
+         SCLK01_OUTPUT_DELIM_82  = ( 1 )\n\
+         SCLK_PARTITION_START_82 = ( 0.0000000000000E+00 )\n\
+         SCLK_PARTITION_END_82   = ( 1.0995116277750E+12 )\n\
+         SCLK01_COEFFICIENTS_82  = ( 0 0 2 )\n",
     ),
     // Four fields, as Galileo's.
     (

@@ -42,7 +42,7 @@ pub const NAIF: &[u8] = b"\
     \x20                    37, @2017-JAN-1 )\n\
     \\begintext\n";
 
-/// The last pair of `naif.tls` and what stands behind it.
+/// The last pair of `naif.tls` and what stands after it.
 const LAST_PAIR: &[u8] = b"\n                     37, @2017-JAN-1 )\n\\begintext\n";
 
 /// `short.tls`: `naif.tls` without the pair of 37.
@@ -100,7 +100,7 @@ const ZERO: &[u8] = b"\\begindata\nDELTET/EB = 0\nDELTET/M = ( 0 0 )\n";
 /// `nok.tls` is `naif.tls` by which TDB is TT.
 const NO_K: &[u8] = b"\\begindata\nDELTET/K = 0\n";
 
-/// `naif.tls`, and behind it what is given anew.
+/// `naif.tls`, and after it what is given anew.
 fn naif_with(alloc: Global, anew: &[u8]) -> Result<Vec<u8>, OutOfMemory> {
     let mut file = Vec::from_slice(alloc, NAIF)?;
     file.extend_from_slice(anew)?;

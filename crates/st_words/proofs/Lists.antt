@@ -25,7 +25,7 @@ flat_map_one {A = A} f xs i x l =
     ap (flat_map f) (take_more xs i x l) ∙ flat_map-append f (take i xs) (get_or xs i x ∷ [])
     ∙ ap (λ (t : List A). flat_map f (take i xs) ++ t) (append-nil (f (get_or xs i x)))
 
--- one more piece behind those before
+-- one more piece after those before
 pub pieces_more : {X A : Type 0} (f : X → List A) (text : List A) (xs : List X) (i : ℕ) (x : X) → i < length xs
     → (text ++ flat_map f (take i xs)) ++ f (get_or xs i x) ≡ text ++ flat_map f (take (i + 1) xs)
 pieces_more {X = X} {A = A} f text xs i x l =
@@ -51,7 +51,7 @@ texts_more values i v before names l is e =
 pub take_of_map : {X Y : Type 0} (f : X → Y) (n : ℕ) (xs : List X) → map f (take n xs) ≡ take n (map f xs)
 take_of_map f n xs = sym (take-map f n xs)
 
--- what is behind the first item
+-- what is after the first item
 abbrev pub tail_of : {X : Type 0} → List X → List X
 tail_of xs = take (length xs - 1) (drop 1 xs)
 

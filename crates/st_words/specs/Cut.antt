@@ -102,7 +102,7 @@ is_numeric Sample = true
 is_numeric Sc = true
 is_numeric opt = false
 
--- The reading goes on no further: the next word, or the value behind it, breaks a rule; the fault has its place.
+-- The reading goes on no further: the next word, or the value after it, breaks a rule; the fault has its place.
 abbrev pub Stops : Standing → WordFault → Type 0
 Stops at (Unknown i) = (word : List ℕ) × (more : List (List ℕ)) × (at.left ≡ word ∷ more) × IsPlain word × (i ≡ at.place)
 Stops at (Twice i) =

@@ -128,7 +128,7 @@ counted opt plain = at_least 1 plain
 abbrev pub value_count : Opt → List (List ℕ) → Option ℕ
 value_count opt more = counted opt (prefix_len is_plain more)
 
--- the option at a place, with the value behind its word, and how many words that has
+-- the option at a place, with the value after its word, and how many words that has
 abbrev pub choice_of : Opt → ℕ → List (List ℕ) → Result (Choice × ℕ) WordFault
 choice_of opt place more =
     ok_or (value_count opt more) (NoValue place) >>= λ n. value_of opt place (take n more) >>= λ choice. Ok (choice, n)
@@ -140,7 +140,7 @@ choice_by o place (Some opt) more = if has o opt then Err (Twice place) else cho
 abbrev pub option_at : Options → ℕ → List ℕ → List (List ℕ) → Result (Choice × ℕ) WordFault
 option_at o place word more = choice_by o place (option_of word) more
 
--- all words behind the next few, of which the first stands at a place
+-- all words after the next few, of which the first stands at a place
 abbrev pub read : Options → ℕ → ℕ → List (List ℕ) → Result Options WordFault
 read o place skip [] = Ok o
 read o place (suc skip) (word ∷ more) = read o (place + 1) skip more

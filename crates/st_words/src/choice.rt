@@ -37,7 +37,7 @@ pub enum Choice {
     Back,
 }
 
-/// The option whose word stands at a place, with the value that stands behind it, and how many words
+/// The option whose word stands at a place, with the value that stands after it, and how many words
 /// that value has.
 #[tactic(auto, using(crate::proofs::Lists::take_of_map))]
 pub fn read_choice(

@@ -32,7 +32,7 @@ pub fn read_options(alloc: Global, words: &[String]) -> Result<Options, WordFaul
     Ok(options)
 }
 
-/// The words behind the first few.
+/// The words after the first few.
 fn behind(words: &[String], count: usize) -> &[String]
     requires { count ≤ length words.now }
     ensures { result.now ≡ drop count words.now }

@@ -16,7 +16,7 @@ use std::alloc::Global;
 /// What the words of the program ask for: a job that a session can be opened for.
 ///
 /// Options and their values are after the CHRONOS User's Guide; option words, systems and types are
-/// taken in any letter case. The value of an option is the words behind it, none of which names an
+/// taken in any letter case. The value of an option is the words after it, none of which names an
 /// option: all of them up to the next option for `-format` and `-time`, with one blank between each
 /// two, two words for `-sample`, none for `-batch` and `-back`, and else one.
 ///

@@ -5,7 +5,7 @@ use Rattle.st_kernel_text.specs.Reader.{Fed}
 use Rattle.st_kernel_text.proofs.PieceLaws.{fed_next, fed_to, reads_so_far, only_so_far, every_answer}
 use Rattle.st_kernel_text.proofs.reader.KernelReader.feed.Goals as goal
 
--- the piece behind the bytes before it
+-- the piece after the bytes before it
 next : (c : goal.After-take) (bytes : List ℕ) → Fed bytes c.args.self.now → Gives c.take.new.self.reading c.take.result (fed_of (bytes ++ c.args.piece.now))
 next c bytes h =
     fed_next bytes c.args.piece.now c.args.self.now.failed c.args.self.now.reading c.take.new.self.reading c.take.result h c.take.ensures.again c.take.ensures.gives
