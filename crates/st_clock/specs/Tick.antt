@@ -1,6 +1,6 @@
 -- The tick of a time: the nearest one on the line of the record in force, after NAIF's SCLK Required Reading, type 1.
--- That a line is capped at the next record's tick, and that what lies after the last partition is After, are choices of
--- this project: so the tick never falls as the time rises.
+-- That a half counts up, that a line is capped at the next record's tick, and that what lies after the last partition is
+-- After, are choices of this project: so the tick never falls as the time rises.
 use Rattle.std.specs.Prelude.{◌≡◌, ◌≢◌, ℕ, ◌+◌, ◌*◌, ◌^◌, ◌≤◌, ℤ, pos, ◌<ℤ◌, Option, None, Some, Result, Ok, Err}
 use Rattle.std.specs.List.{slice_get}
 use Rattle.st_fraction.specs.Fraction.{Fraction, ◌<ᶠ◌, over, whole, units, ◌+ᶠ◌, ◌-ᶠ◌, ◌*ᶠ◌, least}
