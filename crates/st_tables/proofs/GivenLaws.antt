@@ -1,8 +1,9 @@
 -- Whether the loaded kernels give some variables these numbers.
-use Rattle.std.proofs.Common.{◌≡◌, ℕ, ◌+◌, ◌<◌, ◌≤◌, zero, suc, Some, List, [], ◌∷◌, ◌++◌, length, take, map, get_or, refl, sym, ap, ◌∙◌, arith}
+use Rattle.std.proofs.Common.{◌≡◌, ℕ, ◌+◌, ◌<◌, ◌≤◌, zero, suc, Option, None, Some, List, [], ◌∷◌, ◌++◌, length, take, drop, map, Bor, get_or, refl, sym, ap, ◌∙◌, arith}
 use Rattle.std.proofs.lemmas.List.{take_more, take_all}
-use Rattle.std.proofs.lemmas.Option.{get_or_from_slice_get}
+use Rattle.std.specs.Iterator.{YieldsFirstRef}
 use Rattle.std.specs.List.{slice_get}
+use Rattle.std.specs.Option.{option_copied}
 use Rattle.st_decimal.specs.declared.number.Dec.{Dec}
 use Rattle.st_kernel_text.specs.declared.value.Value.{Value}
 use Rattle.st_kernel_text.specs.declared.value.Value.TheVariants.{Number}
@@ -50,16 +51,20 @@ pub all_given : (loaded : Loaded) (vars : List Var) (numbers : List (List Dec)) 
 all_given loaded vars numbers i same l e =
     sym (take_all i numbers (omega arith)) ∙ e ∙ ap (λ (x : List Var). all_numbers loaded x) (take_all i vars l)
 
--- one more value is the number
-pub one_value : (loaded : Loaded) (var : Var) (name : List ℕ) (numbers : List Dec) (i : ℕ) (n : Dec) → name ≡ var_name var
-    → i < length (loaded_values name loaded) → i < length numbers
-    → take i (loaded_values (var_name var) loaded) ≡ map Number (take i numbers) → slice_get (loaded_values name loaded) i ≡ Some (Number (get_or numbers i n))
-    → take (i + 1) (loaded_values (var_name var) loaded) ≡ map Number (take (i + 1) numbers)
-one_value loaded var name numbers i n same l k e f =
-    let v : Value = Number (get_or numbers i n) in
-    ap (λ (m : List ℕ). take (i + 1) (loaded_values m loaded)) (sym same)
-    ∙ take_more (loaded_values name loaded) i v l
-    ∙ ap (λ (x : List Value). x ++ get_or (loaded_values name loaded) i v ∷ []) (ap (λ (m : List ℕ). take i (loaded_values m loaded)) same ∙ e)
-    ∙ ap (λ (x : Value). map Number (take i numbers) ++ x ∷ []) (get_or_from_slice_get (loaded_values name loaded) i v v f)
-    ∙ sym (map-snoc Number (take i numbers) (get_or numbers i n))
-    ∙ sym (ap (λ (x : List Dec). map Number x) (take_more numbers i n k))
+-- where values are numbers of which the first i are taken, the next value is the next number
+value-here : (numbers : List Dec) (i : ℕ) (n : Dec) (values : List Value) → i < length numbers → map Number (take i numbers) ++ values ≡ map Number numbers
+    → slice_get values 0 ≡ Some (Number (get_or numbers i n))
+value-here [] i n values l e = absurd (omega arith)
+value-here (d ∷ more) zero n values l e = ap (λ (x : List Value). slice_get x 0) e
+value-here (d ∷ more) (suc i) n values l e = value-here more i n values (omega arith) (ap (λ (x : List Value). drop 1 x) e)
+
+value-lent : (next : Option (Bor Value)) (values rest : List Value) → YieldsFirstRef (λ (x : List Value). x) values next rest → option_copied next ≡ slice_get values 0
+value-lent None values rest h = sym (ap (λ (x : List Value). slice_get x 0) h.0)
+value-lent (Some v) values rest h = sym (ap (λ (x : List Value). slice_get x 0) h)
+
+-- the value that comes next isn't the next number
+pub other_value : (all : List Value) (numbers : List Dec) (i : ℕ) (n : Dec) (values rest : List Value) (next : Option (Bor Value)) → i < length numbers
+    → all ≡ map Number (take i numbers) ++ values → YieldsFirstRef (λ (x : List Value). x) values next rest
+    → (option_copied next ≡ Some (Number (get_or numbers i n)) → ⊥) → all ≡ map Number numbers → ⊥
+other_value all numbers i n values rest next l so_far lent other e =
+    other (value-lent next values rest lent ∙ value-here numbers i n values l (sym so_far ∙ e))

@@ -1,8 +1,6 @@
 -- The numbers among the values of a variable.
-use Rattle.std.proofs.Common.{◌≡◌, ◌≢◌, ℕ, ◌+◌, ◌<◌, Bool, true, false, cond, ◌||◌, Some, List, [], ◌∷◌, ◌++◌, length, take, map, filter, refl, sym, ap, ◌∙◌, subst, bytes_eq}
-use Rattle.std.proofs.lemmas.List.{take_more}
-use Rattle.std.proofs.lemmas.Option.{get_or_from_slice_get}
-use Rattle.std.specs.List.{slice_get, flat_map, list_any}
+use Rattle.std.proofs.Common.{◌≡◌, ◌≢◌, ℕ, Bool, true, false, cond, ◌||◌, List, [], ◌∷◌, map, filter, refl, sym, ap, ◌∙◌, subst, bytes_eq}
+use Rattle.std.specs.List.{flat_map, list_any}
 use Rattle.st_decimal.specs.declared.number.Dec.{Dec}
 use Rattle.st_kernel_text.specs.declared.assignment.Assignment.{Assignment}
 use Rattle.st_kernel_text.specs.declared.value.Value.{Value}
@@ -14,20 +12,6 @@ use Rattle.st_ticks.specs.declared.variable.Var.{Var}
 use Rattle.st_tables.specs.declared.fault.TableFault.TheVariants.{WrongKind}
 use Rattle.st_tables.specs.Names.{var_name}
 use Rattle.st_tables.specs.Variables.{Loaded, Keeps, numbers_in, numbers_of}
-
-numbers_in-append : (a b : List Value) → numbers_in (a ++ b) ≡ numbers_in a ++ numbers_in b
-numbers_in-append [] b = refl
-numbers_in-append ((Number d) ∷ a) b = ap (λ (l : List Dec). d ∷ l) (numbers_in-append a b)
-numbers_in-append ((Text t) ∷ a) b = numbers_in-append a b
-
--- one more value at the end
-one-more : (values : List Value) (i : ℕ) (v : Value) → i < length values → slice_get values i ≡ Some v → take (i + 1) values ≡ take i values ++ v ∷ []
-one-more values i v l is = take_more values i v l ∙ ap (λ (x : Value). take i values ++ x ∷ []) (get_or_from_slice_get values i v v is)
-
-pub list-more : (values : List Value) (i : ℕ) (v : Value) (list : List Dec) → i < length values → slice_get values i ≡ Some v
-    → list ≡ numbers_in (take i values) → list ++ numbers_in (v ∷ []) ≡ numbers_in (take (i + 1) values)
-list-more values i v list l is e =
-    ap (λ (n : List Dec). n ++ numbers_in (v ∷ [])) e ∙ sym (numbers_in-append (take i values) (v ∷ [])) ∙ sym (ap numbers_in (one-more values i v l is))
 
 in-mapped : (numbers : List Dec) → numbers_in (map Number numbers) ≡ numbers
 in-mapped [] = refl

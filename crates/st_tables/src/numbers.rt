@@ -35,10 +35,8 @@ fn numbers_of(alloc: Global, pool: &Pool, var: Var) -> Result<List<Dec>, OutOfMe
     let name = name_of(var);
     let name = name.as_str().as_bytes();
     let mut list = List::new(alloc);
-    for i in 0..pool.count(name) {
-        if let Some(value) = pool.value(name, i) {
-            add(&mut list, value)?;
-        }
+    for value in pool.values(name) {
+        add(&mut list, value)?;
     }
     Ok(list)
 }
@@ -73,15 +71,13 @@ fn are_values(pool: &Pool, var: Var, numbers: &[Dec]) -> bool
 {
     let name = name_of(var);
     let name = name.as_str().as_bytes();
-    if pool.count(name) != numbers.len() {
-        return false;
-    }
-    for (i, number) in numbers.iter().enumerate() {
-        if !is_number(pool.value(name, i), *number) {
+    let mut values = pool.values(name);
+    for number in numbers {
+        if !is_number(values.next(), *number) {
             return false;
         }
     }
-    true
+    values.next().is_none()
 }
 
 /// Whether a value is this number.

@@ -4,13 +4,10 @@ use Rattle.std.proofs.Math.Seq.{take-length}
 use Rattle.std.proofs.lemmas.Grind.{flat_map-append}
 use Rattle.std.proofs.lemmas.List.{append-nil, take_more, take-map}
 use Rattle.std.proofs.lemmas.List.Folds.{flat_map-map}
-use Rattle.std.proofs.lemmas.Option.{get_or_from_slice_get, same_Some}
+use Rattle.std.proofs.lemmas.Option.{same_Some}
 use Rattle.std.specs.Result.{IsErrAnd, IfErr, IfOk}
 use Rattle.std.specs.List.{flat_map, prefix_len, slice_get}
-use Rattle.st_kernel_text.specs.declared.value.Value.{Value}
-use Rattle.st_kernel_text.specs.declared.value.Value.TheVariants.{Number, Text}
 use Rattle.st_words.specs.Values.{joined}
-use Rattle.st_words.specs.Setup.{texts_in}
 
 prefix_step : (b : Bool) (m n : ℕ) → m ≡ n → cond b (1 + m) 0 ≡ cond b (1 + n) 0
 prefix_step b m n e = ap (λ (k : ℕ). cond b (1 + k) 0) e
@@ -31,22 +28,6 @@ pub pieces_more : {X A : Type 0} (f : X → List A) (text : List A) (xs : List X
 pieces_more {X = X} {A = A} f text xs i x l =
     append_assoc text (flat_map f (take i xs)) (f (get_or xs i x))
     ∙ ap (λ (t : List A). text ++ t) (sym (flat_map_one f xs i x l))
-
-texts_in_append : (a b : List Value) → texts_in (a ++ b) ≡ texts_in a ++ texts_in b
-texts_in_append [] b = refl
-texts_in_append ((Number d) ∷ a) b = texts_in_append a b
-texts_in_append ((Text t) ∷ a) b = ap (λ (l : List (List ℕ)). t ∷ l) (texts_in_append a b)
-
--- one more value at the end
-one_more : (values : List Value) (i : ℕ) (v : Value) → i < length values → slice_get values i ≡ Some v → take (i + 1) values ≡ take i values ++ v ∷ []
-one_more values i v l is = take_more values i v l ∙ ap (λ (x : Value). take i values ++ x ∷ []) (get_or_from_slice_get values i v v is)
-
-pub texts_more : (values : List Value) (i : ℕ) (v : Value) (before names : List (List ℕ)) → i < length values → slice_get values i ≡ Some v
-    → names ≡ before ++ texts_in (take i values) → names ++ texts_in (v ∷ []) ≡ before ++ texts_in (take (i + 1) values)
-texts_more values i v before names l is e =
-    let more : texts_in (take (i + 1) values) ≡ texts_in (take i values) ++ texts_in (v ∷ []) =
-    ap texts_in (one_more values i v l is) ∙ texts_in_append (take i values) (v ∷ []) in
-    grind (arith, more, e, append_assoc)
 
 pub take_of_map : {X Y : Type 0} (f : X → Y) (n : ℕ) (xs : List X) → map f (take n xs) ≡ take n (map f xs)
 take_of_map f n xs = sym (take-map f n xs)

@@ -81,10 +81,8 @@ fn add_texts(
 ) -> Result<(), OutOfMemory>
     ensures { OnOk result (names.new ≡ names.old ++ texts_in (loaded_values name.now pool.now)) }
 {
-    for i in 0..pool.count(name) {
-        if let Some(value) = pool.value(name, i) {
-            add_text(alloc, names, value)?;
-        }
+    for value in pool.values(name) {
+        add_text(alloc, names, value)?;
     }
     Ok(())
 }

@@ -1,10 +1,10 @@
-use Rattle.std.proofs.Common.{sym, ◌∙◌, arith}
-use Rattle.st_tables.proofs.GivenLaws.{one_value}
+use Rattle.std.proofs.Common.{◌≡◌, sym, ◌∙◌, true, false}
+use Rattle.st_tables.proofs.GivenLaws.{other_value}
 use Rattle.st_tables.proofs.numbers.are_values.Goals as goal
 
-pub loop-i-preserved : goal.loop-i-preserved
-loop-i-preserved c = record {
-  name = c.loop-i.invariant.name;
-  same = one_value c.args.pool.now c.args.var c.as_bytes-name.result.now c.args.numbers.now c.loop-i.i _ c.loop-i.invariant.name (omega arith) (omega arith) c.loop-i.invariant.same
-      (sym c.value.ensures.value ∙ c.is_number.ensures.0 c.if-not-is_number.false);
-}
+pub returns-then-not-is_number : goal.returns-then-not-is_number
+returns-then-not-is_number c = (
+  λ h. absurd (let t : false ≡ true = h in cc),
+  λ e. absurd (other_value _ c.args.numbers.now c.loop-number.number-index _ c.loop-number.values _ c.next.result c.loop-number-test.true c.loop-number.invariant c.next.ensures.steps
+      (λ same. let t : false ≡ true = sym c.if-not-is_number.true ∙ c.is_number.ensures.1 same in absurd cc) e),
+)
