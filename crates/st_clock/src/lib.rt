@@ -19,6 +19,7 @@ mod tests;
 mod ticks;
 
 pub use clock::Clock;
+pub use number::is_whole;
 pub use point::{ClockRange, Point};
 pub use system::check_system;
 pub use ticks::{Ticks, TicksUndecided};

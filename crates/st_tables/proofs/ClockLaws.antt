@@ -43,19 +43,19 @@ of_parts = (λ x. (tt, x), λ x. x.1)
 of_face : {A : Type 0} → (A → A × Unit {0}) × (A × Unit {0} → A)
 of_face = (λ x. (x, tt), λ x. x.0)
 
-system_alike : (n : Numbers) → Alike (parts.Keeps (n DataType) (n TimeSystem) []) (KeepsOfClock n) system_rules
+pub system_alike : (n : Numbers) → Alike (parts.Keeps (n DataType) (n TimeSystem) []) (KeepsOfClock n) system_rules
 system_alike n = (of_parts, (of_parts, (of_parts, (of_parts, tt))))
 
 record_alike : (n : Numbers) → Alike (KeepsParts n) (KeepsOfClock n) record_rules
 record_alike n = (of_parts, (of_parts, (of_parts, (of_parts, (of_parts, tt)))))
 
-face_alike : (n : Numbers) → Alike (KeepsFace n) (KeepsOfClock n) face_rules
+pub face_alike : (n : Numbers) → Alike (KeepsFace n) (KeepsOfClock n) face_rules
 face_alike n = (of_face, (of_face, (of_face, (of_face, (of_face, (of_face, (of_face, (of_face, (of_face, (of_face, (of_face, (of_face, (of_face, (of_face, (of_face, (of_face, (of_face, (of_face, (of_face, tt)))))))))))))))))))
 
-system_kept : (n : Numbers) (scale : Scale) → GivesScale (n DataType) (n TimeSystem) (Ok scale) → AreKept (KeepsOfClock n) system_rules
+pub system_kept : (n : Numbers) (scale : Scale) → GivesScale (n DataType) (n TimeSystem) (Ok scale) → AreKept (KeepsOfClock n) system_rules
 system_kept n scale g = kept_along (parts.Keeps (n DataType) (n TimeSystem) []) (KeepsOfClock n) system_rules (system_alike n) g.0
 
-face_kept : (n : Numbers) (f : Face) → MakesFace (face_numbers n) (Ok f) → AreKept (KeepsOfClock n) face_rules
+pub face_kept : (n : Numbers) (f : Face) → MakesFace (face_numbers n) (Ok f) → AreKept (KeepsOfClock n) face_rules
 face_kept n f m = kept_along (KeepsFace n) (KeepsOfClock n) face_rules (face_alike n) m.0
 
 -- the first fault is one of the data type and the time system,

@@ -31,7 +31,6 @@ rules_form Eb = inl refl
 rules_form M = inl refl
 rules_form LeapsecondsFile = inl refl
 rules_form SclkFile = inl refl
-rules_form SpacecraftId = inl refl
 rules_form (Clock DataType n) = inl refl
 rules_form (Clock TimeSystem n) = inr refl
 rules_form (Clock NFields n) = inl refl
@@ -41,6 +40,7 @@ rules_form (Clock Delim n) = inl refl
 rules_form (Clock Start n) = inl refl
 rules_form (Clock End n) = inl refl
 rules_form (Clock Coefficients n) = inl refl
+rules_form other = inl refl
 
 abbrev pub KindIs : Loaded → Var → Kind → Type 0
 KindIs loaded var kind = loaded_kind (var_name var) loaded ≡ kind

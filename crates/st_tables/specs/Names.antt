@@ -1,10 +1,11 @@
 -- The names of variables. Source: the header of NAIF's leapseconds kernels, and SCLK Required Reading on the variables of
--- a type 1 clock kernel; those of a setup by the CHRONOS User's Guide.
+-- a type 1 clock kernel; those of a setup by the CHRONOS User's Guide, of a
+-- meta-kernel by the Kernel Required Reading; those of a correlation are this project's own.
 use Rattle.std.specs.Prelude.{ℕ, List, ◌++◌, codes, decimal}
 use Rattle.st_ticks.specs.declared.variable.ClockVar.{ClockVar}
 use Rattle.st_ticks.specs.declared.variable.ClockVar.TheVariants.{DataType, TimeSystem, NFields, Moduli, Offsets, Delim, Start, End, Coefficients}
 use Rattle.st_ticks.specs.declared.variable.Var.{Var}
-use Rattle.st_ticks.specs.declared.variable.Var.TheVariants.{DeltaAt, DeltaTa, K, Eb, M, Clock, LeapsecondsFile, SclkFile, SpacecraftId}
+use Rattle.st_ticks.specs.declared.variable.Var.TheVariants.{DeltaAt, DeltaTa, K, Eb, M, Clock, LeapsecondsFile, SclkFile, SpacecraftId, KernelsToLoad, PathSymbols, PathValues, CorrelateId, CorrelateTolerance, CorrelatePairs}
 
 -- the name of a clock's variable, up to the clock's number
 abbrev pub clock_name : ClockVar → List ℕ
@@ -29,3 +30,9 @@ var_name (Clock var n) = clock_name var ++ decimal n
 var_name LeapsecondsFile = codes "LEAPSECONDS_FILE"
 var_name SclkFile = codes "SCLK_FILE"
 var_name SpacecraftId = codes "SPACECRAFT_ID"
+var_name KernelsToLoad = codes "KERNELS_TO_LOAD"
+var_name PathSymbols = codes "PATH_SYMBOLS"
+var_name PathValues = codes "PATH_VALUES"
+var_name CorrelateId = codes "CORRELATE_ID"
+var_name CorrelateTolerance = codes "CORRELATE_TOLERANCE"
+var_name CorrelatePairs = codes "CORRELATE_PAIRS"

@@ -19,5 +19,7 @@ mod tests;
 
 pub use fault::TableFault;
 pub use kernels::Kernels;
+pub use kinds::first_refused;
 pub use name::{Name, name_of, put_name};
+pub use numbers::{Numbers, read_numbers};
 pub use tables::Tables;

@@ -31,6 +31,12 @@ pub fn name_of(var: Var) -> Name
         Var::LeapsecondsFile => name("LEAPSECONDS_FILE"),
         Var::SclkFile => name("SCLK_FILE"),
         Var::SpacecraftId => name("SPACECRAFT_ID"),
+        Var::KernelsToLoad => name("KERNELS_TO_LOAD"),
+        Var::PathSymbols => name("PATH_SYMBOLS"),
+        Var::PathValues => name("PATH_VALUES"),
+        Var::CorrelateId => name("CORRELATE_ID"),
+        Var::CorrelateTolerance => name("CORRELATE_TOLERANCE"),
+        Var::CorrelatePairs => name("CORRELATE_PAIRS"),
     }
 }
 

@@ -73,4 +73,16 @@ pub enum Var {
     SclkFile,
     /// `SPACECRAFT_ID`
     SpacecraftId,
+    /// `KERNELS_TO_LOAD`
+    KernelsToLoad,
+    /// `PATH_SYMBOLS`
+    PathSymbols,
+    /// `PATH_VALUES`
+    PathValues,
+    /// `CORRELATE_ID`
+    CorrelateId,
+    /// `CORRELATE_TOLERANCE`
+    CorrelateTolerance,
+    /// `CORRELATE_PAIRS`
+    CorrelatePairs,
 }
