@@ -25,3 +25,5 @@ pub mod Rows
 pub mod Runs
 pub mod Settled
 pub mod States
+pub mod WrittenLaws
+pub mod WrittenNumbers

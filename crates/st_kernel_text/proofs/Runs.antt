@@ -19,7 +19,7 @@ use Rattle.st_dates.proofs.DateLaws.{reads, only}
 use Rattle.st_kernel_text.specs.ValueMachine.{dated, numbered_value, date_number, short_number, number_of_run}
 use Rattle.st_kernel_text.specs.Values.{ReadsRun, ReadsDate, ReadsNumber}
 
-in_range : (z : ℤ) → IsInRange z → unsigned_abs z < 10 ^ 38
+pub in_range : (z : ℤ) → IsInRange z → unsigned_abs z < 10 ^ 38
 in_range (pos n) h = omega (arith, ints, h.1)
 in_range (negsuc n) h = omega (arith, ints, h.0)
 

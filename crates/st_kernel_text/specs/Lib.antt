@@ -13,3 +13,4 @@ pub mod PiecesMachine
 pub mod Reader
 pub mod ValueMachine
 pub mod Values
+pub mod Written
