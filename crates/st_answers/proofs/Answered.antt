@@ -126,16 +126,9 @@ not-out (by_clock c form) (at_tick After) h = h
 
 prints-gives : (route : Route) (r : Fraction) (target : Target) (x : Result (List ℕ) TimeFault) → Prints route r target x → RouteGives route r target x
 prints-gives route r target (Ok text) h = h
-prints-gives route r target (Err faults.BadTime) h = h
-prints-gives route r target (Err faults.WrongSystem) h = h
-prints-gives route r target (Err faults.NoSuchDay) h = h
-prints-gives route r target (Err faults.OutOfRange) h = h
-prints-gives route r target (Err faults.NoSuchSecond) h = h
-prints-gives route r target (Err (faults.BadClockText why)) h = h
-prints-gives route r target (Err faults.BeforeClock) h = h
-prints-gives route r target (Err faults.AfterClock) h = h
 prints-gives route r target (Err faults.Undecided) h = absurd (not-undecided target h.0 h.2)
 prints-gives route r target (Err faults.OutOfMemory) h = tt
+prints-gives route r target (Err other) h = h
 
 prints-not-out : (route : Route) (r : Fraction) (target : Target) (x : Result (List ℕ) TimeFault) → Prints route r target x → x ≢ Err faults.OutOfMemory
 prints-not-out route r target x h e = not-out target h.0 (subst (λ (z : Result (List ℕ) TimeFault). Spells target h.0 z) e h.2)

@@ -70,14 +70,7 @@ pub same-source : (route : Route) (r s : Fraction) (target : Target) (x : Result
 same-source route r s target (Err Undecided) pr ps e h = may-be route r s target pr ps e h
 same-source route r s target (Err OutOfMemory) pr ps e h = h
 same-source route r s target (Ok text) pr ps e (o, may, spells) = (o, may-print route r s target o pr ps e may, spells)
-same-source route r s target (Err BadTime) pr ps e (o, may, spells) = (o, may-print route r s target o pr ps e may, spells)
-same-source route r s target (Err WrongSystem) pr ps e (o, may, spells) = (o, may-print route r s target o pr ps e may, spells)
-same-source route r s target (Err NoSuchDay) pr ps e (o, may, spells) = (o, may-print route r s target o pr ps e may, spells)
-same-source route r s target (Err OutOfRange) pr ps e (o, may, spells) = (o, may-print route r s target o pr ps e may, spells)
-same-source route r s target (Err NoSuchSecond) pr ps e (o, may, spells) = (o, may-print route r s target o pr ps e may, spells)
-same-source route r s target (Err (BadClockText w)) pr ps e (o, may, spells) = (o, may-print route r s target o pr ps e may, spells)
-same-source route r s target (Err BeforeClock) pr ps e (o, may, spells) = (o, may-print route r s target o pr ps e may, spells)
-same-source route r s target (Err AfterClock) pr ps e (o, may, spells) = (o, may-print route r s target o pr ps e may, spells)
+same-source route r s target (Err other) pr ps e (o, may, spells) = (o, may-print route r s target o pr ps e may, spells)
 
 -- a point is a fraction, and one with no part of a unit is so many units
 pub point-is : (time : Point) → time.part < time.of → IsFraction (value_of time)
@@ -116,16 +109,8 @@ second-is system a b NoSecond e h = h
 pub same-instant : (system : System) (form : Form) (a b : Option LeapTable) (text : List ℕ) (r : Result ℤ TimeFault) → option_map pairs_of a ≡ option_map pairs_of b
     → InstantGives system form a text r → InstantGives system form b text r
 same-instant system form a b text (Ok u) e (time, reads, is) = (time, reads, instant-is system a b time u (same-days system a b e) is)
-same-instant system form a b text (Err BadTime) e h = h
-same-instant system form a b text (Err WrongSystem) e h = h
-same-instant system form a b text (Err NoSuchDay) e h = h
-same-instant system form a b text (Err OutOfRange) e h = h
 same-instant system form a b text (Err NoSuchSecond) e (time, reads, is) = (time, reads, second-is system a b time (same-days system a b e) is)
-same-instant system form a b text (Err (BadClockText w)) e h = h
-same-instant system form a b text (Err BeforeClock) e h = h
-same-instant system form a b text (Err AfterClock) e h = h
-same-instant system form a b text (Err Undecided) e h = h
-same-instant system form a b text (Err OutOfMemory) e h = h
+same-instant system form a b text (Err other) e h = h
 
 -- an outcome by a picture is that by a table of the same pairs
 outcome-is : (p : Picture) (a b : Option LeapTable) (v : Fraction) (o : Outcome) → option_map pairs_of a ≡ option_map pairs_of b
@@ -175,11 +160,4 @@ pub same-printed : (route : Route) (r : Fraction) (p : Picture) (a b : Option Le
 same-printed route r p a b (Ok text) e (o, may, spells) = (o, printed route r p a b o e may, spelled p a b o (Ok text) spells)
 same-printed route r p a b (Err Undecided) e h = undecided route r p a b e h
 same-printed route r p a b (Err OutOfMemory) e h = h
-same-printed route r p a b (Err BadTime) e (o, may, spells) = (o, printed route r p a b o e may, spelled p a b o (Err BadTime) spells)
-same-printed route r p a b (Err WrongSystem) e (o, may, spells) = (o, printed route r p a b o e may, spelled p a b o (Err WrongSystem) spells)
-same-printed route r p a b (Err NoSuchDay) e (o, may, spells) = (o, printed route r p a b o e may, spelled p a b o (Err NoSuchDay) spells)
-same-printed route r p a b (Err OutOfRange) e (o, may, spells) = (o, printed route r p a b o e may, spelled p a b o (Err OutOfRange) spells)
-same-printed route r p a b (Err NoSuchSecond) e (o, may, spells) = (o, printed route r p a b o e may, spelled p a b o (Err NoSuchSecond) spells)
-same-printed route r p a b (Err (BadClockText w)) e (o, may, spells) = (o, printed route r p a b o e may, spelled p a b o (Err (BadClockText w)) spells)
-same-printed route r p a b (Err BeforeClock) e (o, may, spells) = (o, printed route r p a b o e may, spelled p a b o (Err BeforeClock) spells)
-same-printed route r p a b (Err AfterClock) e (o, may, spells) = (o, printed route r p a b o e may, spelled p a b o (Err AfterClock) spells)
+same-printed route r p a b (Err other) e (o, may, spells) = (o, printed route r p a b o e may, spelled p a b o (Err other) spells)

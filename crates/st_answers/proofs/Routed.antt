@@ -33,11 +33,4 @@ pub one-of : (route : Route) (r : Fraction) (target : Target) (x : Result (List 
 one-of route r target (Ok text) g = inl g
 one-of route r target (Err faults.Undecided) g = inr (inl (g, refl))
 one-of route r target (Err faults.OutOfMemory) g = inr (inr refl)
-one-of route r target (Err faults.BeforeClock) g = inl g
-one-of route r target (Err faults.AfterClock) g = inl g
-one-of route r target (Err faults.BadTime) g = inl g
-one-of route r target (Err faults.WrongSystem) g = inl g
-one-of route r target (Err faults.NoSuchDay) g = inl g
-one-of route r target (Err faults.OutOfRange) g = inl g
-one-of route r target (Err faults.NoSuchSecond) g = inl g
-one-of route r target (Err (faults.BadClockText why)) g = inl g
+one-of route r target (Err other) g = inl g

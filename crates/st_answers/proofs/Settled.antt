@@ -18,14 +18,7 @@ prints : (route : Route) (r : Fraction) (target : Target) (answer : Result (List
 prints route r target (Ok text) s g = g
 prints route r target (Err Undecided) s g = absurd (s.decided refl)
 prints route r target (Err OutOfMemory) s g = absurd (s.memory refl)
-prints route r target (Err BadTime) s g = g
-prints route r target (Err WrongSystem) s g = g
-prints route r target (Err NoSuchDay) s g = g
-prints route r target (Err OutOfRange) s g = g
-prints route r target (Err NoSuchSecond) s g = g
-prints route r target (Err (BadClockText why)) s g = g
-prints route r target (Err BeforeClock) s g = g
-prints route r target (Err AfterClock) s g = g
+prints route r target (Err other) s g = g
 
 pub one-settled : (route : Route) (r : Fraction) (target : Target) (a b : Result (List ℕ) TimeFault) → IsTarget target → IsFraction r → IsSettled a → IsSettled b
     → RouteGives route r target a → RouteGives route r target b → a ≡ b

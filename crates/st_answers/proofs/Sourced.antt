@@ -80,16 +80,8 @@ one-way job loaded text tables fault (Err f) are h gives = λ not.
   where
     by : (t : TimeFault) → (t ≢ time.OutOfMemory → GivesBy (is_clock job.from && is_clock job.to) job tables text (Err t)) → of_time t ≢ OutOfMemory
         → ForwardGives job loaded text (Err (of_time t))
-    by time.BadTime g not = ((λ e. cc), (tables, are, g (λ e. cc)))
-    by time.WrongSystem g not = ((λ e. cc), (tables, are, g (λ e. cc)))
-    by time.NoSuchDay g not = ((λ e. cc), (tables, are, g (λ e. cc)))
-    by time.OutOfRange g not = ((λ e. cc), (tables, are, g (λ e. cc)))
-    by time.NoSuchSecond g not = ((λ e. cc), (tables, are, g (λ e. cc)))
-    by (time.BadClockText w) g not = ((λ e. cc), (tables, are, g (λ e. cc)))
-    by time.BeforeClock g not = ((λ e. cc), (tables, are, g (λ e. cc)))
-    by time.AfterClock g not = ((λ e. cc), (tables, are, g (λ e. cc)))
-    by time.Undecided g not = ((λ e. cc), (tables, are, g (λ e. cc)))
     by time.OutOfMemory g not = absurd (not refl)
+    by other g not = ((λ e. cc), (tables, are, g (λ e. cc)))
 
 -- the first refusal of a table is the answer
 pub table-refuses : (job : Job) (loaded : Loaded) (text : List ℕ) (fault : TableFault) (r : Result (List ℕ) AnswerFault) → IsErrAnd r (λ f. f ≡ of_table fault)

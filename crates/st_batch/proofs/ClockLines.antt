@@ -24,7 +24,7 @@ use Rattle.st_batch.specs.Limits.{most_line_bytes}
 use Rattle.st_batch.specs.Returns.{CoveredLineReturns, TdbLineReturns, TellsTick}
 use Rattle.st_batch.specs.Session.{MayAnswer}
 use Rattle.st_batch.specs.Setting.{Loaded, Setting}
-use Rattle.st_batch.specs.Times.{TimeGives, time_answer}
+use Rattle.st_batch.specs.Times.{TimeAnswered, time_answer}
 use Rattle.st_batch.proofs.CommandLaws.{and-left}
 
 -- neither a digit nor a blank begins a command
@@ -77,16 +77,16 @@ module _ (s : Setting) (loaded after : Loaded) (line : List ℕ) (clock : TheClo
   is-time : begins_command (trimmed line) ≡ false
   is-time = no-command clock (source_form s.job.form) (trimmed line) k h.reads
 
-  pub time-of : MayAnswer s loaded line answer after → TimeGives s.job loaded (trimmed line) answer × (after ≡ loaded)
+  pub time-of : MayAnswer s loaded line answer after → TimeAnswered s.job loaded (trimmed line) answer × (after ≡ loaded)
   time-of (inl (long, e, same)) = absurd (omega (arith, short, long))
   time-of (inr (few, inl (command, gives))) = absurd (false≢true (sym is-time ∙ command))
   time-of (inr (few, inr (none, gives, same))) = (gives, same)
 
-  pub line-of : TimeGives s.job loaded (trimmed line) answer → after ≡ loaded → MayAnswer s loaded line answer after
+  pub line-of : TimeAnswered s.job loaded (trimmed line) answer → after ≡ loaded → MayAnswer s loaded line answer after
   line-of gives same = inr (short, inr (is-time, gives, same))
 
 told : (s : Setting) (loaded : Loaded) (text : List ℕ) (answer : Answer) (result : Result (List ℕ) AnswerFault) → AnswerGives s.job loaded text result
-    → answer ≡ time_answer s.job result → TimeGives s.job loaded text answer
+    → answer ≡ time_answer s.job result → TimeAnswered s.job loaded text answer
 told s loaded text answer result given answered = record { result = result; given = given; answered = answered }
 
 returned : (s : Setting) (clock : TheClock) (k : ℕ) (there : List ℕ) (answer : Answer) (result : Result (List ℕ) AnswerFault) → answer ≡ time_answer s.job result

@@ -4,8 +4,11 @@ use Rattle.std.proofs.lemmas.List.Sums.{sum_by-cons}
 use Rattle.st_answers.specs.Ready.{IsReady}
 use Rattle.st_batch.specs.declared.answer.Answer.{Answer}
 use Rattle.st_batch.specs.declared.answer.Answer.TheVariants.{Text, Refused}
+use Rattle.st_refusals.specs.declared.fault.LineFault.{LineFault}
 use Rattle.st_refusals.specs.declared.fault.LineFault.TheVariants as line
-use Rattle.st_batch.specs.Causes.{is_file_fault}
+use Rattle.st_refusals.specs.Causes.{FileCause, Faulty}
+use Rattle.st_refusals.proofs.RefusalLaws.{faulty-is-file-fault}
+use Rattle.st_batch.specs.Causes.{answer_cause, has_cause, is_same_cause}
 use Rattle.st_batch.specs.Laws.{EveryBeginningGoesOn}
 use Rattle.st_batch.specs.Session.{MayAnswer, RunsTo}
 use Rattle.st_batch.specs.Setting.{Loaded, Setting}
@@ -13,40 +16,23 @@ use Rattle.st_batch.proofs.LineLaws.{some-answer}
 use Rattle.st_batch.proofs.LinesLaws.{runs-join}
 
 -- an answer that names no fault counts for nothing
-pub counts-none : (answer : Answer) → answer ≢ Refused line.FileFault → ◌≡◌ {A = ℕ} (cond (is_file_fault answer) 1 0) 0
-counts-none (Text said) not = refl
-counts-none (Refused line.FileFault) not = absurd (not refl)
-counts-none (Refused line.BadCommand) not = refl
-counts-none (Refused line.LineTooLong) not = refl
-counts-none (Refused line.NoFile) not = refl
-counts-none (Refused line.FileTooLong) not = refl
-counts-none (Refused (line.KernelText n c)) not = refl
-counts-none (Refused line.TooManyKernels) not = refl
-counts-none (Refused line.TooManyValues) not = refl
-counts-none (Refused line.NotLoaded) not = refl
-counts-none (Refused (line.NoVariable v)) not = refl
-counts-none (Refused (line.WrongKind v)) not = refl
-counts-none (Refused line.BadId) not = refl
-counts-none (Refused (line.BadLeaps f)) not = refl
-counts-none (Refused (line.BadDeltet f)) not = refl
-counts-none (Refused (line.BadClock v w n)) not = refl
-counts-none (Refused line.BadTime) not = refl
-counts-none (Refused line.WrongSystem) not = refl
-counts-none (Refused line.NoSuchDay) not = refl
-counts-none (Refused line.OutOfRange) not = refl
-counts-none (Refused line.NoSuchSecond) not = refl
-counts-none (Refused (line.BadClockText f)) not = refl
-counts-none (Refused line.BeforeClock) not = refl
-counts-none (Refused line.AfterClock) not = refl
-counts-none (Refused line.Undecided) not = refl
-counts-none (Refused line.OutOfMemory) not = refl
+faulty-refused : (answer : Answer) → answer_cause answer ≡ Faulty → answer ≡ Refused line.FileFault
+faulty-refused (Text said) e = absurd cc
+faulty-refused (Refused fault) e = ap (λ (f : LineFault). Refused f) (faulty-is-file-fault fault e)
+
+counts-by : (answer : Answer) (cause : FileCause) → answer_cause answer ≡ cause → answer ≢ Refused line.FileFault → ◌≡◌ {A = ℕ} (cond (is_same_cause Faulty cause) 1 0) 0
+counts-by answer Faulty e not = absurd (not (faulty-refused answer e))
+counts-by answer other e not = refl
+
+pub counts-none : (answer : Answer) → answer ≢ Refused line.FileFault → ◌≡◌ {A = ℕ} (cond (has_cause Faulty answer) 1 0) 0
+counts-none answer not = counts-by answer (answer_cause answer) refl not
 
 -- lines have answers that name no fault
 record SomeRun (s : Setting) (loaded : Loaded) (lines : List (List ℕ)) : Type 0 where
   answers : List Answer
   last : Loaded
   runs : RunsTo s loaded lines answers last
-  none : count_by is_file_fault answers ≡ 0
+  none : count_by (has_cause Faulty) answers ≡ 0
 
 some-run : (s : Setting) (loaded : Loaded) (lines : List (List ℕ)) → IsReady s.job → SomeRun s loaded lines
 some-run s loaded [] ready = record { answers = []; last = loaded; runs = refl; none = refl }
@@ -57,7 +43,7 @@ some-run s loaded (line ∷ lines) ready =
       answers = a.0 ∷ r.answers;
       last = r.last;
       runs = (a.1.0, a.1.1, r.runs);
-      none = omega (arith, sum_by-cons (λ x. cond (is_file_fault x) 1 0) a.0 r.answers, counts-none a.0 a.1.2, r.none);
+      none = omega (arith, sum_by-cons (λ x. cond (has_cause Faulty x) 1 0) a.0 r.answers, counts-none a.0 a.1.2, r.none);
     }
 
 pub goes-on : EveryBeginningGoesOn

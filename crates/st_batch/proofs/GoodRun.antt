@@ -1,8 +1,8 @@
 -- A run whose words, setup and input are good is answered.
-use Rattle.std.proofs.Common.{◌≡◌, ◌≢◌, ℕ, ◌<◌, ◌≤◌, ◌⊎◌, inl, inr, Some, Ok, List, length, arith, subst}
+use Rattle.std.proofs.Common.{◌≡◌, ◌≢◌, ℕ, ◌<◌, ◌≤◌, ◌⊎◌, inl, inr, Some, Ok, List, length, arith, refl, ap, subst}
 use Rattle.st_outside.specs.Entries.{Entries}
 use Rattle.st_refusals.specs.declared.fault.LineFault.{LineFault}
-use Rattle.st_refusals.specs.declared.fault.LineFault.TheVariants as line
+use Rattle.st_refusals.specs.Causes.{FileCause, Faulty, cause_of}
 use Rattle.st_words.specs.Reading.{WordsGive}
 use Rattle.st_words.specs.declared.job.Job.{Job}
 use Rattle.st_batch.specs.declared.status.Status.TheVariants.{Done, SomeRefused, BadWords, BadSetup, ReadFault, WriteFault, OutOfMemory, InputTooLong}
@@ -18,44 +18,21 @@ not-long o input read short h =
     let many : 67_108_864 < length input = subst IsLongInput read h in
     absurd (omega (arith, short, many))
 
--- a refusal is a fault of the files, or another
-fault-or : (cause : LineFault) → IsAnsweredOrCut (BadSetup cause) ⊎ (cause ≢ line.FileFault)
-fault-or line.FileFault = inl tt
-fault-or line.BadCommand = inr (λ e. cc)
-fault-or line.LineTooLong = inr (λ e. cc)
-fault-or line.NoFile = inr (λ e. cc)
-fault-or line.FileTooLong = inr (λ e. cc)
-fault-or (line.KernelText n c) = inr (λ e. cc)
-fault-or line.TooManyKernels = inr (λ e. cc)
-fault-or line.TooManyValues = inr (λ e. cc)
-fault-or line.NotLoaded = inr (λ e. cc)
-fault-or (line.NoVariable v) = inr (λ e. cc)
-fault-or (line.WrongKind v) = inr (λ e. cc)
-fault-or line.BadId = inr (λ e. cc)
-fault-or (line.BadLeaps f) = inr (λ e. cc)
-fault-or (line.BadDeltet f) = inr (λ e. cc)
-fault-or (line.BadClock v w n) = inr (λ e. cc)
-fault-or line.BadTime = inr (λ e. cc)
-fault-or line.WrongSystem = inr (λ e. cc)
-fault-or line.NoSuchDay = inr (λ e. cc)
-fault-or line.OutOfRange = inr (λ e. cc)
-fault-or line.NoSuchSecond = inr (λ e. cc)
-fault-or (line.BadClockText f) = inr (λ e. cc)
-fault-or line.BeforeClock = inr (λ e. cc)
-fault-or line.AfterClock = inr (λ e. cc)
-fault-or line.Undecided = inr (λ e. cc)
-fault-or line.OutOfMemory = inr (λ e. cc)
+-- a cause is a faulty file, or another
+faulty-or : (cause : FileCause) → (cause ≡ Faulty) ⊎ (cause ≢ Faulty)
+faulty-or Faulty = inl refl
+faulty-or other = inr (λ e. cc)
 
 -- a setup that loads is refused for a fault of the files alone
 setup-fault : (o : Outside) (files : Entries) (words : List (List ℕ)) (job : Job) (session : State) (cause : LineFault) (bytes : List ℕ) → o.files.map ≡ Some files
     → WordsGive words (Ok job) → SetupGives (over o job) (Ok session) → SetupRefused o words cause bytes → IsAnsweredOrCut (BadSetup cause)
-setup-fault o files words job session cause bytes told asked given k = by (fault-or cause)
+setup-fault o files words job session cause bytes told asked given k = by (faulty-or (cause_of cause))
   where
-    by : IsAnsweredOrCut (BadSetup cause) ⊎ (cause ≢ line.FileFault) → IsAnsweredOrCut (BadSetup cause)
+    by : (cause_of cause ≡ Faulty) ⊎ (cause_of cause ≢ Faulty) → IsAnsweredOrCut (BadSetup cause)
     by (inl is) = is
     by (inr not) =
         let P : Job → Type 0 = λ j. SetupGives (over o j) (Ok session) in
-        absurd (not-both (over o k.job) files session cause told not (subst P (one-job words job k.job asked k.asked) given) k.given)
+        absurd (not-both (over o k.job) files session cause told (λ e. not (ap cause_of e)) (subst P (one-job words job k.job asked k.asked) given) k.given)
 
 -- a good run is answered, unless its setup meets a fault or it is cut off
 pub good-run : GoodRunIsAnswered

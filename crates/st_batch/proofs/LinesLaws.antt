@@ -12,7 +12,8 @@ use Rattle.st_batch.specs.declared.answer.Answer.{Answer}
 use Rattle.st_batch.specs.declared.answering.Answering.{Answering}
 use Rattle.st_batch.specs.declared.status.Status.{Status}
 use Rattle.st_batch.specs.declared.status.Status.TheVariants.{Done, SomeRefused, BadWords, BadSetup, ReadFault, WriteFault, OutOfMemory, InputTooLong}
-use Rattle.st_batch.specs.Causes.{AreCounted, is_no_file, is_file_fault, is_file_too_long}
+use Rattle.st_batch.specs.Causes.{AreCounted, has_cause}
+use Rattle.st_refusals.specs.Causes.{Missing, Faulty, TooLong}
 use Rattle.st_batch.specs.LinesSteps.{Moment, setting_at, AnswersLine, Writes, Advances, StopsAfter, Completes, StopsWithin, Finishes, FinishesWriting}
 use Rattle.st_batch.specs.Outcome.{is_refused}
 use Rattle.st_batch.specs.OutputSteps.{TakesPrefix}
@@ -52,9 +53,9 @@ counted-none a = record { misses = omega arith; faults = omega arith; taken = om
 
 pub counted-join : (a b c : FileCounts) (xs ys : List Answer) → AreCounted a b xs → AreCounted b c ys → AreCounted a c (xs ++ ys)
 counted-join a b c xs ys p q = record {
-  misses = rw (count-append is_no_file xs ys) (rose-join _ _ _ _ _ p.misses q.misses);
-  faults = rw (count-append is_file_fault xs ys) (rose-join _ _ _ _ _ p.faults q.faults);
-  taken = rw (count-append is_file_too_long xs ys) (bytes-join _ _ _ _ _ p.taken q.taken);
+  misses = rw (count-append (has_cause Missing) xs ys) (rose-join _ _ _ _ _ p.misses q.misses);
+  faults = rw (count-append (has_cause Faulty) xs ys) (rose-join _ _ _ _ _ p.faults q.faults);
+  taken = rw (count-append (has_cause TooLong) xs ys) (bytes-join _ _ _ _ _ p.taken q.taken);
 }
 
 pub counted-later : (a b c : FileCounts) (xs : List Answer) → AreCounted a b xs → AreLater b c → AreCounted a c xs

@@ -17,7 +17,8 @@ use Rattle.st_batch.specs.declared.answer.Answer.TheVariants.{Refused}
 use Rattle.st_refusals.specs.declared.kernel_fault.KernelFault.{KernelFault}
 use Rattle.st_refusals.specs.declared.kernel_fault.KernelFault.TheVariants as kernel
 use Rattle.st_refusals.specs.declared.fault.LineFault.TheVariants.{FileFault, Undecided}
-use Rattle.st_batch.specs.Causes.{is_file_fault}
+use Rattle.st_batch.specs.Causes.{has_cause}
+use Rattle.st_refusals.specs.Causes.{Faulty}
 use Rattle.st_batch.specs.Commands.{CommandGives, begins_command, load_answer, unload_answer}
 use Rattle.st_batch.specs.Laws.{Agree, ExactIsDecided, IsDecided, OneAnswer, OneDecidedAnswer, OneDecidedRun, UndecidedHasASine}
 use Rattle.st_batch.specs.Session.{MayAnswer, RunsTo, TextGives}
@@ -105,15 +106,15 @@ one-answer s files loaded after next line answer other told ready exact h k m n 
     (one.0 (exact-decided s loaded after line answer exact h) (exact-decided s loaded next line other exact k), one.1)
 
 -- answers of which none names a fault of the files
-pub count-first : (answer : Answer) (answers : List Answer) → count_by is_file_fault (answer ∷ answers) ≡ cond (is_file_fault answer) 1 0 + count_by is_file_fault answers
-count-first answer answers = sum_by-cons (λ a. cond (is_file_fault a) 1 0) answer answers
+pub count-first : (answer : Answer) (answers : List Answer) → count_by (has_cause Faulty) (answer ∷ answers) ≡ cond (has_cause Faulty answer) 1 0 + count_by (has_cause Faulty) answers
+count-first answer answers = sum_by-cons (λ a. cond (has_cause Faulty a) 1 0) answer answers
 
-pub names-none : (answer : Answer) (answers : List Answer) → count_by is_file_fault (answer ∷ answers) ≡ 0 → answer ≢ Refused FileFault
+pub names-none : (answer : Answer) (answers : List Answer) → count_by (has_cause Faulty) (answer ∷ answers) ≡ 0 → answer ≢ Refused FileFault
 names-none answer answers none = λ e.
-    let P : Answer → Type 0 = λ a. ◌≡◌ {A = ℕ} (cond (is_file_fault a) 1 0 + count_by is_file_fault answers) 0 in
+    let P : Answer → Type 0 = λ a. ◌≡◌ {A = ℕ} (cond (has_cause Faulty a) 1 0 + count_by (has_cause Faulty) answers) 0 in
     absurd (omega (arith, subst P e (sym (count-first answer answers) ∙ none)))
 
-pub rest-none : (answer : Answer) (answers : List Answer) → count_by is_file_fault (answer ∷ answers) ≡ 0 → count_by is_file_fault answers ≡ 0
+pub rest-none : (answer : Answer) (answers : List Answer) → count_by (has_cause Faulty) (answer ∷ answers) ≡ 0 → count_by (has_cause Faulty) answers ≡ 0
 rest-none answer answers none = omega (arith, count-first answer answers, none)
 
 pub decided-run : OneDecidedRun

@@ -18,7 +18,8 @@ use Rattle.st_words.proofs.GoodJob.{good_job}
 use Rattle.st_samples.proofs.JobLaws.{one-sample}
 use Rattle.st_batch.specs.declared.status.Status.{Status}
 use Rattle.st_batch.specs.declared.status.Status.TheVariants.{Done, SomeRefused, BadWords, BadSetup, ReadFault, WriteFault, OutOfMemory, InputTooLong}
-use Rattle.st_batch.specs.Causes.{IsCaused, is_file_fault}
+use Rattle.st_batch.specs.Causes.{IsCaused, has_cause}
+use Rattle.st_refusals.specs.Causes.{Faulty}
 use Rattle.st_batch.specs.Commands.{begins_command}
 use Rattle.st_batch.specs.Laws.{AgreeEach, AgreeOutputs, AreAllExact, IsComplete, IsExactRun, IsReached, IsTold, OneDecidedOutput, OneOutput}
 use Rattle.st_batch.specs.Outcome.{Outside, AllAnswered, WordsRefused, SetupRefused, Outcome, output_of, over, status_of}
@@ -58,7 +59,7 @@ reached-later s loaded next reached line lines answer may not r = record {
 
 -- lines have one list of answers
 one-run : (s : Setting) (files : Entries) (loaded : Loaded) (lines : List (List ℕ)) (a b : List Answer) (x y : Loaded) → s.files ≡ Some files → IsReady s.job → AreAllExact s loaded lines
-    → RunsTo s loaded lines a x → RunsTo s loaded lines b y → count_by is_file_fault a ≡ 0 → count_by is_file_fault b ≡ 0 → a ≡ b
+    → RunsTo s loaded lines a x → RunsTo s loaded lines b y → count_by (has_cause Faulty) a ≡ 0 → count_by (has_cause Faulty) b ≡ 0 → a ≡ b
 one-run s files loaded [] [] [] x y told ready exact h k m n = refl
 one-run s files loaded [] [] (q ∷ b) x y told ready exact h k m n = absurd k
 one-run s files loaded [] (p ∷ a) b x y told ready exact h k m n = absurd h
@@ -119,11 +120,11 @@ module _ (o p : Outside) (files : Entries) (input : List ℕ) (job : Job) (loade
       let Over : List (List ℕ) → Type 0 = λ ls. RunsTo (over o job) loaded ls k.answers k.after in
       subst Over (sym same-lines) (subst By setting k.answered)
 
-  run-none : count_by is_file_fault h.answers ≡ 0
-  run-none = none-rose (count_by is_file_fault h.answers) o.files.counts.faults o.files_after.counts.faults told.no_fault told.not_last h.counted.faults
+  run-none : count_by (has_cause Faulty) h.answers ≡ 0
+  run-none = none-rose (count_by (has_cause Faulty) h.answers) o.files.counts.faults o.files_after.counts.faults told.no_fault told.not_last h.counted.faults
 
-  again-none : count_by is_file_fault k.answers ≡ 0
-  again-none = none-rose (count_by is_file_fault k.answers) p.files.counts.faults p.files_after.counts.faults same.no_fault same.not_last k.counted.faults
+  again-none : count_by (has_cause Faulty) k.answers ≡ 0
+  again-none = none-rose (count_by (has_cause Faulty) k.answers) p.files.counts.faults p.files_after.counts.faults same.no_fault same.not_last k.counted.faults
 
   agree-answers : AgreeEach h.answers k.answers
   agree-answers =

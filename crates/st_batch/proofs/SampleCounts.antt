@@ -1,6 +1,7 @@
 -- The answer of a line as one that is counted.
-use Rattle.std.proofs.Common.{◌≡◌, ◌≢◌, ℕ, ◌∙◌, Option, Result, Ok, Err, OnOk, List, [], ◌∷◌, sym, subst, arith}
-use Rattle.st_outside.specs.Causes.{AreLater, FileCounts}
+use Rattle.std.proofs.Common.{◌≡◌, ◌≢◌, ℕ, ◌+◌, ◌*◌, cond, count_by, ◌∙◌, Option, Result, Ok, Err, OnOk, List, [], ◌∷◌, sym, subst, arith}
+use Rattle.std.proofs.lemmas.List.Sums.{sum_by-cons}
+use Rattle.st_outside.specs.Causes.{AreLater, FileCounts, RoseBy}
 use Rattle.st_outside.specs.Entries.{Entries}
 use Rattle.st_outside.specs.States.{FilesState}
 use Rattle.st_text.specs.Lines.{trimmed}
@@ -8,9 +9,9 @@ use Rattle.st_words.specs.declared.job.Job.{Job}
 use Rattle.st_samples.specs.JobLine.{IsSampleLine}
 use Rattle.st_samples.specs.Summary.{Summary, with_answer}
 use Rattle.st_batch.specs.declared.answer.Answer.{Answer}
-use Rattle.st_batch.specs.declared.answer.Answer.TheVariants.{Text, Refused}
-use Rattle.st_refusals.specs.declared.fault.LineFault.TheVariants as line
-use Rattle.st_batch.specs.Causes.{AreCounted, IsAnswerCaused}
+use Rattle.st_refusals.specs.Causes.{FileCause, NoCause, Missing, Faulty, TooLong}
+use Rattle.st_batch.specs.Causes.{AreCounted, IsAnswerCaused, IsCausedBy, answer_cause, has_cause, is_same_cause}
+use Rattle.st_batch.specs.Limits.{most_file_bytes}
 use Rattle.st_batch.specs.SampleSteps.{SumsLine}
 use Rattle.st_batch.specs.Session.{MayAnswer}
 use Rattle.st_batch.specs.Commands.{IsNoLoad}
@@ -19,33 +20,28 @@ use Rattle.st_batch.proofs.SampleLaws.{sample-no-load, sample-stays}
 use Rattle.st_batch.specs.Texts.{as_counted}
 
 -- an answer that has its cause is counted
+record IsCounted (cause : FileCause) (before after : FileCounts) : Type 0 where
+  misses : RoseBy (cond (is_same_cause Missing cause) 1 0) before.misses after.misses
+  faults : RoseBy (cond (is_same_cause Faulty cause) 1 0) before.faults after.faults
+  taken : RoseBy (cond (is_same_cause TooLong cause) 1 0 * (most_file_bytes + 1)) before.taken after.taken
+
+counted-by : (cause : FileCause) (before after : FileCounts) → AreLater before after → IsCausedBy cause before after → IsCounted cause before after
+counted-by Missing before after l h = record { misses = omega (arith, h.0); faults = omega (arith, l.faults); taken = omega (arith, l.taken) }
+counted-by Faulty before after l h = record { misses = omega (arith, l.misses); faults = omega (arith, h); taken = omega (arith, l.taken) }
+counted-by TooLong before after l h = record { misses = omega (arith, l.misses); faults = omega (arith, l.faults); taken = omega (arith, h) }
+counted-by NoCause before after l h = record { misses = omega (arith, l.misses); faults = omega (arith, l.faults); taken = omega (arith, l.taken) }
+
+count-one : (cause : FileCause) (a : Answer) → count_by (has_cause cause) (a ∷ []) ≡ cond (has_cause cause a) 1 0
+count-one cause a = omega (arith, sum_by-cons (λ x. cond (has_cause cause x) 1 0) a [])
+
 pub caused-counted : (a : Answer) (before after : FileCounts) → AreLater before after → IsAnswerCaused a before after → AreCounted before after (a ∷ [])
-caused-counted (Text text) before after l h = record { misses = omega (arith, l.misses); faults = omega (arith, l.faults); taken = omega (arith, l.taken) }
-caused-counted (Refused line.NoFile) before after l h = record { misses = omega (arith, h.0); faults = omega (arith, l.faults); taken = omega (arith, l.taken) }
-caused-counted (Refused line.FileFault) before after l h = record { misses = omega (arith, l.misses); faults = omega (arith, h); taken = omega (arith, l.taken) }
-caused-counted (Refused line.FileTooLong) before after l h = record { misses = omega (arith, l.misses); faults = omega (arith, l.faults); taken = omega (arith, h) }
-caused-counted (Refused line.BadCommand) before after l h = record { misses = omega (arith, l.misses); faults = omega (arith, l.faults); taken = omega (arith, l.taken) }
-caused-counted (Refused line.LineTooLong) before after l h = record { misses = omega (arith, l.misses); faults = omega (arith, l.faults); taken = omega (arith, l.taken) }
-caused-counted (Refused line.TooManyKernels) before after l h = record { misses = omega (arith, l.misses); faults = omega (arith, l.faults); taken = omega (arith, l.taken) }
-caused-counted (Refused line.TooManyValues) before after l h = record { misses = omega (arith, l.misses); faults = omega (arith, l.faults); taken = omega (arith, l.taken) }
-caused-counted (Refused line.NotLoaded) before after l h = record { misses = omega (arith, l.misses); faults = omega (arith, l.faults); taken = omega (arith, l.taken) }
-caused-counted (Refused line.BadId) before after l h = record { misses = omega (arith, l.misses); faults = omega (arith, l.faults); taken = omega (arith, l.taken) }
-caused-counted (Refused line.BadTime) before after l h = record { misses = omega (arith, l.misses); faults = omega (arith, l.faults); taken = omega (arith, l.taken) }
-caused-counted (Refused line.WrongSystem) before after l h = record { misses = omega (arith, l.misses); faults = omega (arith, l.faults); taken = omega (arith, l.taken) }
-caused-counted (Refused line.NoSuchDay) before after l h = record { misses = omega (arith, l.misses); faults = omega (arith, l.faults); taken = omega (arith, l.taken) }
-caused-counted (Refused line.OutOfRange) before after l h = record { misses = omega (arith, l.misses); faults = omega (arith, l.faults); taken = omega (arith, l.taken) }
-caused-counted (Refused line.NoSuchSecond) before after l h = record { misses = omega (arith, l.misses); faults = omega (arith, l.faults); taken = omega (arith, l.taken) }
-caused-counted (Refused line.BeforeClock) before after l h = record { misses = omega (arith, l.misses); faults = omega (arith, l.faults); taken = omega (arith, l.taken) }
-caused-counted (Refused line.AfterClock) before after l h = record { misses = omega (arith, l.misses); faults = omega (arith, l.faults); taken = omega (arith, l.taken) }
-caused-counted (Refused line.Undecided) before after l h = record { misses = omega (arith, l.misses); faults = omega (arith, l.faults); taken = omega (arith, l.taken) }
-caused-counted (Refused line.OutOfMemory) before after l h = record { misses = omega (arith, l.misses); faults = omega (arith, l.faults); taken = omega (arith, l.taken) }
-caused-counted (Refused (line.KernelText n c)) before after l h = record { misses = omega (arith, l.misses); faults = omega (arith, l.faults); taken = omega (arith, l.taken) }
-caused-counted (Refused (line.NoVariable v)) before after l h = record { misses = omega (arith, l.misses); faults = omega (arith, l.faults); taken = omega (arith, l.taken) }
-caused-counted (Refused (line.WrongKind v)) before after l h = record { misses = omega (arith, l.misses); faults = omega (arith, l.faults); taken = omega (arith, l.taken) }
-caused-counted (Refused (line.BadLeaps f)) before after l h = record { misses = omega (arith, l.misses); faults = omega (arith, l.faults); taken = omega (arith, l.taken) }
-caused-counted (Refused (line.BadDeltet f)) before after l h = record { misses = omega (arith, l.misses); faults = omega (arith, l.faults); taken = omega (arith, l.taken) }
-caused-counted (Refused (line.BadClock v w n)) before after l h = record { misses = omega (arith, l.misses); faults = omega (arith, l.faults); taken = omega (arith, l.taken) }
-caused-counted (Refused (line.BadClockText f)) before after l h = record { misses = omega (arith, l.misses); faults = omega (arith, l.faults); taken = omega (arith, l.taken) }
+caused-counted a before after l h =
+    let k = counted-by (answer_cause a) before after l h in
+    record {
+      misses = subst (λ (n : ℕ). RoseBy n before.misses after.misses) (sym (count-one Missing a)) k.misses;
+      faults = subst (λ (n : ℕ). RoseBy n before.faults after.faults) (sym (count-one Faulty a)) k.faults;
+      taken = subst (λ (n : ℕ). RoseBy (n * (most_file_bytes + 1)) before.taken after.taken) (sym (count-one TooLong a)) k.taken;
+    }
 
 -- the line of x was answered and its answer counted
 summed-line : (s : Setting) (loaded next : Loaded) (counts : FileCounts) (x : ℕ) (text : List ℕ) (answer : Answer) (before after : Summary)

@@ -18,7 +18,7 @@ use Rattle.st_batch.specs.Load.{LoadGives}
 use Rattle.st_refusals.specs.Faults.{line_fault}
 use Rattle.st_batch.specs.Session.{MayAnswer, TextGives}
 use Rattle.st_batch.specs.Setting.{Loaded, Setting}
-use Rattle.st_batch.specs.Times.{TimeGives}
+use Rattle.st_batch.specs.Times.{TimeAnswered}
 use Rattle.st_batch.proofs.SetupLaws.{given-line}
 use Rattle.st_batch.proofs.TimeAnswers as times
 
@@ -46,12 +46,12 @@ text-line s loaded after line text (Err error) short same given = tt
 
 -- the answer of a time is that of its text
 pub time-text : {E : Type 0} (files : Option Entries) (job : Job) (loaded after : Loaded) (text : List ℕ) (r : Result Answer E) → begins_command text ≡ false
-    → IfOk r (TimeGives job loaded text) → after ≡ loaded → IfOk r (λ answer. TextGives (record { files = files; job = job }) loaded text answer after)
+    → IfOk r (TimeAnswered job loaded text) → after ≡ loaded → IfOk r (λ answer. TextGives (record { files = files; job = job }) loaded text answer after)
 time-text files job loaded after text (Ok answer) time given left = inr (time, given, left)
 time-text files job loaded after text (Err error) time given left = tt
 
 -- and wants no cause
-pub time-caused : {E : Type 0} (job : Job) (loaded : Loaded) (text : List ℕ) (before now : FileCounts) (r : Result Answer E) → IfOk r (TimeGives job loaded text)
+pub time-caused : {E : Type 0} (job : Job) (loaded : Loaded) (text : List ℕ) (before now : FileCounts) (r : Result Answer E) → IfOk r (TimeAnswered job loaded text)
     → IfOk r (λ answer. IsAnswerCaused answer before now)
 time-caused job loaded text before now (Ok answer) given = times.no-cause job loaded text answer before now given
 time-caused job loaded text before now (Err error) given = tt

@@ -13,7 +13,8 @@ use Rattle.st_words.specs.Reading.{WordsGive}
 use Rattle.st_words.specs.declared.job.Job.{Job}
 use Rattle.st_batch.specs.declared.status.Status.{Status}
 use Rattle.st_batch.specs.declared.status.Status.TheVariants.{Done, SomeRefused, BadWords, BadSetup, InputTooLong}
-use Rattle.st_batch.specs.Causes.{is_file_fault}
+use Rattle.st_batch.specs.Causes.{has_cause}
+use Rattle.st_refusals.specs.Causes.{Faulty, cause_of}
 use Rattle.st_batch.specs.Commands.{begins_command}
 use Rattle.st_batch.specs.Limits.{most_input_bytes}
 use Rattle.st_batch.specs.Lines.{AreLines}
@@ -63,7 +64,7 @@ pub record IsReached (s : Setting) (loaded : Loaded) (lines : List (List ℕ)) (
   pub among : lines ≡ first ++ (line ∷ more)
   pub time : begins_command (trimmed line) ≡ false
   pub answered : RunsTo s loaded first answers reached
-  pub no_fault : count_by is_file_fault answers ≡ 0
+  pub no_fault : count_by (has_cause Faulty) answers ≡ 0
 
 -- by each loaded list that is reached no sine stands on the job's way
 abbrev pub AreAllExact : Setting → Loaded → List (List ℕ) → Type 0
@@ -122,7 +123,7 @@ abbrev pub OneDecidedRun : Type 0
 OneDecidedRun =
     (s : Setting) (files : Entries) (loaded after next : Loaded) (lines : List (List ℕ)) (answers others : List Answer)
     → s.files ≡ Some files → IsReady s.job → RunsTo s loaded lines answers after → RunsTo s loaded lines others next
-    → count_by is_file_fault answers ≡ 0 → count_by is_file_fault others ≡ 0 → AgreeEach answers others × (after ≡ next)
+    → count_by (has_cause Faulty) answers ≡ 0 → count_by (has_cause Faulty) others ≡ 0 → AgreeEach answers others × (after ≡ next)
 
 -- Where a line is left undecided a sine stands on the job's way, or where that is asked for on its way back.
 abbrev pub UndecidedHasASine : Type 0
@@ -167,14 +168,13 @@ abbrev pub EveryBeginningGoesOn : Type 0
 EveryBeginningGoesOn =
     (s : Setting) (loaded after : Loaded) (lines more : List (List ℕ)) (answers : List Answer)
     → IsReady s.job → RunsTo s loaded lines answers after
-    → (later : List Answer) × ((last : Loaded) × RunsTo s loaded (lines ++ more) (answers ++ later) last × (count_by is_file_fault later ≡ 0))
+    → (later : List Answer) × ((last : Loaded) × RunsTo s loaded (lines ++ more) (answers ++ later) last × (count_by (has_cause Faulty) later ≡ 0))
 
 -- all lines were answered, or the setup was refused for a fault of the files, or a fault of the input or the output or want of
 -- memory cut the run off
 abbrev pub IsAnsweredOrCut : Status → Type 0
 IsAnsweredOrCut (BadWords fault) = ⊥
-IsAnsweredOrCut (BadSetup FileFault) = ⊤
-IsAnsweredOrCut (BadSetup cause) = ⊥
+IsAnsweredOrCut (BadSetup fault) = cause_of fault ≡ Faulty
 IsAnsweredOrCut InputTooLong = ⊥
 IsAnsweredOrCut status = ⊤
 

@@ -7,13 +7,13 @@ use Rattle.st_refusals.specs.declared.fault.LineFault.TheVariants.{LineTooLong}
 use Rattle.st_batch.specs.Commands.{CommandGives, begins_command}
 use Rattle.st_batch.specs.Limits.{most_line_bytes}
 use Rattle.st_batch.specs.Setting.{Loaded, Setting}
-use Rattle.st_batch.specs.Times.{TimeGives}
+use Rattle.st_batch.specs.Times.{TimeAnswered}
 
 -- The answer of a text between the blanks of a line, with the loaded list after it. A time leaves the list.
 abbrev pub TextGives : Setting → Loaded → List ℕ → Answer → Loaded → Type 0
 TextGives s loaded text answer after =
     ((begins_command text ≡ true) × CommandGives s.files loaded text answer after)
-    ⊎ ((begins_command text ≡ false) × TimeGives s.job loaded text answer × (after ≡ loaded))
+    ⊎ ((begins_command text ≡ false) × TimeAnswered s.job loaded text answer × (after ≡ loaded))
 
 -- A line may be given an answer, with this loaded list after it.
 abbrev pub MayAnswer : Setting → Loaded → List ℕ → Answer → Loaded → Type 0

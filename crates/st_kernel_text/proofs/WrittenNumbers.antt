@@ -142,7 +142,7 @@ fixed-spells n places few small =
       ),
     )
 
--- a date behind an `@`
+-- a date after an `@`
 at_run : is_run_byte 64 ≡ true
 unfolding is_run_byte
 at_run = refl

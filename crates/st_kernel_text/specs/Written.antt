@@ -45,7 +45,7 @@ pub data Entry : Type 0 where
   listed : NumberList → Entry
   alone : NumberAlone → Entry
 
--- the text is one of the number, and at least one separator stands behind it
+-- the text is one of the number, and at least one separator stands after it
 pub record IsItem (item : Item) : Type 0 where
   pub spells : SpellsRun item.number item.text
   pub gap : IsTrue (list_all is_separator item.gap)
@@ -132,7 +132,7 @@ FixedSpells =
     (n : ℤ) (places : ℕ) → places ≤ 18 → unsigned_abs n < 10 ^ 30
     → (d : Dec) × (SpellsRun d (fixed n places) × IsTimesTen d.digits (d.tens +ℤ pos places) n)
 
--- A written date behind an `@` spells the seconds to the beginning of its day.
+-- A written date after an `@` spells the seconds to the beginning of its day.
 abbrev pub DateSpells : Type 0
 DateSpells =
     (n : ℤ) (c : Civil) → IsCivil n c → unsigned_abs c.year < 10_000 → IsInRange (moment n 0)

@@ -13,7 +13,7 @@ pub fn one_answer()
     ensures { OneAnswer }
 {}
 
-/// A number written with fixed decimals, and a date behind an `@`, spell what they are worth.
+/// A number written with fixed decimals, and a date after an `@`, spell what they are worth.
 pub fn written_numbers()
     ensures fixed { FixedSpells }
     ensures date { DateSpells }

@@ -1,8 +1,15 @@
 -- The refusal of a setup or a line for the fault of a crate below.
+use Rattle.std.specs.Prelude.{ℕ}
+use Rattle.st_answers.specs.declared.fault.AnswerFault.{AnswerFault}
+use Rattle.st_answers.specs.declared.fault.AnswerFault.TheVariants as answer
 use Rattle.st_kernel_text.specs.declared.fault.TextFault.{TextFault}
 use Rattle.st_kernel_text.specs.declared.fault.TextFault.TheVariants as text
 use Rattle.st_pool.specs.declared.fault.LoadFault.{LoadFault}
 use Rattle.st_pool.specs.declared.fault.LoadFault.TheVariants as pool
+use Rattle.st_routes.specs.declared.fault.TimeFault.{TimeFault}
+use Rattle.st_routes.specs.declared.fault.TimeFault.TheVariants as time
+use Rattle.st_tables.specs.declared.fault.TableFault.{TableFault}
+use Rattle.st_tables.specs.declared.fault.TableFault.TheVariants as table
 use Rattle.st_ticks.specs.declared.variable.Var.TheVariants.{SpacecraftId}
 use Rattle.st_words.specs.declared.fault.IdFault.{IdFault}
 use Rattle.st_words.specs.declared.fault.IdFault.TheVariants as id
@@ -44,3 +51,31 @@ abbrev pub id_fault : IdFault → LineFault
 id_fault id.Missing = line.NoVariable SpacecraftId
 id_fault id.WrongKind = line.WrongKind SpacecraftId
 id_fault id.BadId = line.BadId
+
+-- the refusal of a line whose tables are refused, for a clock of this id
+abbrev pub table_fault : ℕ → TableFault → LineFault
+table_fault n (table.NoVariable var) = line.NoVariable var
+table_fault n (table.WrongKind var) = line.WrongKind var
+table_fault n (table.Leaps fault) = line.BadLeaps fault
+table_fault n (table.Deltet fault) = line.BadDeltet fault
+table_fault n (table.Clock fault) = line.BadClock fault.var fault.why n
+table_fault n table.OutOfMemory = line.OutOfMemory
+
+-- and of one whose time is refused
+abbrev pub time_fault : TimeFault → LineFault
+time_fault time.BadTime = line.BadTime
+time_fault time.WrongSystem = line.WrongSystem
+time_fault time.NoSuchDay = line.NoSuchDay
+time_fault time.OutOfRange = line.OutOfRange
+time_fault time.NoSuchSecond = line.NoSuchSecond
+time_fault (time.BadClockText fault) = line.BadClockText fault
+time_fault time.BeforeClock = line.BeforeClock
+time_fault time.AfterClock = line.AfterClock
+time_fault time.Undecided = line.Undecided
+time_fault time.OutOfMemory = line.OutOfMemory
+
+-- and of one whose answer is refused
+abbrev pub answer_fault : ℕ → AnswerFault → LineFault
+answer_fault n (answer.Table fault) = table_fault n fault
+answer_fault n (answer.Time fault) = time_fault fault
+answer_fault n answer.OutOfMemory = line.OutOfMemory

@@ -19,11 +19,4 @@ pub one_time : (clock : Clock) (k : ℕ) (found : Result Point ClockRange) → (
 one_time clock k found only (Ok time) g = ap of_time (only (Ok time) g)
 one_time clock k found only (Err faults.BeforeClock) g = ap of_time (only (Err ranges.Before) g)
 one_time clock k found only (Err faults.OutOfRange) g = ap of_time (only (Err ranges.OutOfRange) g)
-one_time clock k found only (Err faults.BadTime) g = absurd g
-one_time clock k found only (Err faults.WrongSystem) g = absurd g
-one_time clock k found only (Err faults.NoSuchDay) g = absurd g
-one_time clock k found only (Err faults.NoSuchSecond) g = absurd g
-one_time clock k found only (Err (faults.BadClockText why)) g = absurd g
-one_time clock k found only (Err faults.AfterClock) g = absurd g
-one_time clock k found only (Err faults.Undecided) g = absurd g
-one_time clock k found only (Err faults.OutOfMemory) g = absurd g
+one_time clock k found only (Err other) g = absurd g

@@ -57,11 +57,7 @@ read system form leaps text (Err faults.BadTime) g = record { reading = Err form
 read system form leaps text (Err faults.WrongSystem) g = record { reading = Err forms.WrongSystem; reads = g; follows = refl }
 read system form leaps text (Err faults.NoSuchDay) g = record { reading = Err forms.NoSuchDay; reads = g; follows = refl }
 read system form leaps text (Err faults.OutOfRange) g = record { reading = Err forms.OutOfRange; reads = g; follows = refl }
-read system form leaps text (Err (faults.BadClockText why)) g = absurd g
-read system form leaps text (Err faults.BeforeClock) g = absurd g
-read system form leaps text (Err faults.AfterClock) g = absurd g
-read system form leaps text (Err faults.Undecided) g = absurd g
-read system form leaps text (Err faults.OutOfMemory) g = absurd g
+read system form leaps text (Err other) g = absurd g
 
 -- a time has one instant, and none where it has no second
 one_value : (system : System) (leaps : Option LeapTable) (time : TimeText) (u w : ℤ) → IsInstant system leaps time u → IsInstant system leaps time w → u ≡ w

@@ -116,15 +116,7 @@ record HasRead (clock : Clock) (form : TickForm) (text : List ℕ) (answer : Res
 read : (clock : Clock) (form : TickForm) (text : List ℕ) (answer : Result ℕ TimeFault) → TickGives clock form text answer → HasRead clock form text answer
 read clock form text (Ok k) g = record { reading = Ok k; reads = g; follows = refl }
 read clock form text (Err (faults.BadClockText why)) g = record { reading = Err why; reads = g; follows = refl }
-read clock form text (Err faults.BadTime) g = absurd g
-read clock form text (Err faults.WrongSystem) g = absurd g
-read clock form text (Err faults.NoSuchDay) g = absurd g
-read clock form text (Err faults.OutOfRange) g = absurd g
-read clock form text (Err faults.NoSuchSecond) g = absurd g
-read clock form text (Err faults.BeforeClock) g = absurd g
-read clock form text (Err faults.AfterClock) g = absurd g
-read clock form text (Err faults.Undecided) g = absurd g
-read clock form text (Err faults.OutOfMemory) g = absurd g
+read clock form text (Err other) g = absurd g
 
 pub only_tick : (clock : Clock) (form : TickForm) (text : List ℕ) (found : Result ℕ ClockTextFault) → ((answer : Result ℕ ClockTextFault) → ReadsTick clock form text answer → found ≡ answer)
     → (answer : Result ℕ TimeFault) → TickGives clock form text answer → of_clock found ≡ answer

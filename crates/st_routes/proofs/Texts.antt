@@ -39,28 +39,12 @@ use Rattle.st_routes.proofs.Outcomes.{counts, each_has_outcome, early, one_outco
 before_is : (clock : Clock) (form : TickForm) (a : Result (List ℕ) TimeFault) → Spells (by_clock clock form) (at_tick Before) a → a ≡ Err faults.BeforeClock
 before_is clock form (Ok text) s = absurd s
 before_is clock form (Err faults.BeforeClock) s = refl
-before_is clock form (Err faults.BadTime) s = absurd s
-before_is clock form (Err faults.WrongSystem) s = absurd s
-before_is clock form (Err faults.NoSuchDay) s = absurd s
-before_is clock form (Err faults.OutOfRange) s = absurd s
-before_is clock form (Err faults.NoSuchSecond) s = absurd s
-before_is clock form (Err (faults.BadClockText why)) s = absurd s
-before_is clock form (Err faults.AfterClock) s = absurd s
-before_is clock form (Err faults.Undecided) s = absurd s
-before_is clock form (Err faults.OutOfMemory) s = absurd s
+before_is clock form (Err other) s = absurd s
 
 after_is : (clock : Clock) (form : TickForm) (a : Result (List ℕ) TimeFault) → Spells (by_clock clock form) (at_tick After) a → a ≡ Err faults.AfterClock
 after_is clock form (Ok text) s = absurd s
 after_is clock form (Err faults.AfterClock) s = refl
-after_is clock form (Err faults.BadTime) s = absurd s
-after_is clock form (Err faults.WrongSystem) s = absurd s
-after_is clock form (Err faults.NoSuchDay) s = absurd s
-after_is clock form (Err faults.OutOfRange) s = absurd s
-after_is clock form (Err faults.NoSuchSecond) s = absurd s
-after_is clock form (Err (faults.BadClockText why)) s = absurd s
-after_is clock form (Err faults.BeforeClock) s = absurd s
-after_is clock form (Err faults.Undecided) s = absurd s
-after_is clock form (Err faults.OutOfMemory) s = absurd s
+after_is clock form (Err other) s = absurd s
 
 one_tick_text : AreKnown → (clock : Clock) (form : TickForm) (k : ℕ) (x y : List ℕ) → IsClock clock → IsTickText clock form k x → IsTickText clock form k y → x ≡ y
 one_tick_text laws clock tick_forms.Clock k x y is s t = (laws.canonical clock.face k x is.face).0 s ∙ sym ((laws.canonical clock.face k y is.face).0 t)
@@ -98,14 +82,7 @@ gives : (route : Route) (r : Fraction) (target : Target) (a : Result (List ℕ) 
 gives route r target (Ok text) g = inl g
 gives route r target (Err faults.Undecided) g = inr (inl g)
 gives route r target (Err faults.OutOfMemory) g = inr (inr refl)
-gives route r target (Err faults.BeforeClock) g = inl g
-gives route r target (Err faults.AfterClock) g = inl g
-gives route r target (Err faults.BadTime) g = inl g
-gives route r target (Err faults.WrongSystem) g = inl g
-gives route r target (Err faults.NoSuchDay) g = inl g
-gives route r target (Err faults.OutOfRange) g = inl g
-gives route r target (Err faults.NoSuchSecond) g = inl g
-gives route r target (Err (faults.BadClockText why)) g = inl g
+gives route r target (Err other) g = inl g
 
 pub exact_is_one : ((route : Route) (r : Fraction) (target : Target) → HasNoSineOnIt route → MayBeUndecided route r target → ⊥) → AreKnown → ExactIsOne
 exact_is_one decided laws route r target a b is p none na nb ga gb = elim (gives route r target a ga) [
