@@ -182,7 +182,7 @@ impl Columns {
 }
 
 /// The texts of noons in a scale. Where these are `answers`, those outside the range are refused.
-fn columns(
+fn texts_of(
     alloc: Global,
     noons: &[Noon],
     scale: (&str, i64, bool),
@@ -249,8 +249,8 @@ fn a_hundred_days_there_and_back(rt: HostRuntime) -> Result<(), Fail> {
     assert_eq!(rt; noons.len(), 400);
     for scale in SCALES {
         let (name, _, _) = scale;
-        let asked = columns(alloc, noons.as_slice(), scale, false)?;
-        let answered = columns(alloc, noons.as_slice(), scale, true)?;
+        let asked = texts_of(alloc, noons.as_slice(), scale, false)?;
+        let answered = texts_of(alloc, noons.as_slice(), scale, true)?;
         let there = ["-from", "UTC", "-to", name];
         converts(&rt, alloc, &there, &asked.labels, &answered.seconds)?;
         let there = ["-from", "UTC", "-to", name, "-totype", "SCET"];

@@ -42,8 +42,8 @@ const SAMPLES: [(&[&str], Status, &str); 6] = [
             "1000",
             "3",
         ],
-        Status::SomeRefused,
-        "sample 1000 texts 755 refused 245 sum 2045566\n",
+        Status::Done,
+        "sample 1000 texts 1000 refused 0 sum 2151541\n",
     ),
     (
         &[
