@@ -7,7 +7,7 @@ use Rattle.st_clock.specs.Clock.{Clock}
 use Rattle.st_leaps.specs.OfTable.{pairs_of}
 use Rattle.st_leaps.specs.declared.table.LeapTable.{LeapTable}
 use Rattle.st_scales.specs.declared.deltet.Deltet.{Deltet}
-use Rattle.st_tables.specs.Kernels.{Kernels, Find, FindsLeaps as GiveLeaps, FindsConstants as GiveConstants, FindsClock as GiveClock, found_clock, found_constants, found_leaps}
+use Rattle.st_tables.specs.Kernels.{Kernels, Find, FindsLeaps as GiveLeaps, FindsConstants as GiveConstants, FindsClock as GiveClock, found_clock, found_constants, found_leaps, refused_clock, refused_constants, refused_leaps}
 use Rattle.st_tables.specs.Tables.{ClockGives, ConstantsGive, LeapsGive}
 use Rattle.st_tables.specs.Variables.{Loaded}
 use Rattle.st_tables.specs.declared.fault.TableFault.{TableFault}
@@ -93,19 +93,19 @@ no-clock-asked job ready none = by (has_clock job) (λ e. ready.known e)
     by true h = absurd (none-some (h refl).0 (sym none ∙ (h refl).1))
 
 -- finding a table keeps what was found
-pub later-leaps : (r : Result ⊤ TableFault) (before after : Kernels) → Find r before (found_leaps before) after → IsLater before after
+pub later-leaps : (r : Result ⊤ TableFault) (before after : Kernels) → Find r (refused_leaps before) (found_leaps before) after → IsLater before after
 later-leaps (Ok done) before after e =
     subst (λ (k : Kernels). IsLater before k) (sym e) (record { loaded = refl; leaps = λ x. refl; constants = λ x. x })
 later-leaps (Err fault) before after e =
     subst (λ (k : Kernels). IsLater before k) (sym e) (record { loaded = refl; leaps = λ x. x; constants = λ x. x })
 
-pub later-constants : (r : Result ⊤ TableFault) (before after : Kernels) → Find r before (found_constants before) after → IsLater before after
+pub later-constants : (r : Result ⊤ TableFault) (before after : Kernels) → Find r (refused_constants before) (found_constants before) after → IsLater before after
 later-constants (Ok done) before after e =
     subst (λ (k : Kernels). IsLater before k) (sym e) (record { loaded = refl; leaps = λ x. x; constants = λ x. refl })
 later-constants (Err fault) before after e =
     subst (λ (k : Kernels). IsLater before k) (sym e) (record { loaded = refl; leaps = λ x. x; constants = λ x. x })
 
-pub later-clock : (n : ℕ) (r : Result ⊤ TableFault) (before after : Kernels) → Find r before (found_clock n before) after → IsLater before after
+pub later-clock : (n : ℕ) (r : Result ⊤ TableFault) (before after : Kernels) → Find r (refused_clock n before) (found_clock n before) after → IsLater before after
 later-clock n (Ok done) before after e =
     subst (λ (k : Kernels). IsLater before k) (sym e) (record { loaded = refl; leaps = λ x. x; constants = λ x. x })
 later-clock n (Err fault) before after e =
@@ -128,17 +128,17 @@ have-asked job loaded tables are = record {
 }
 
 -- what is found after a table was asked for
-pub found-leaps : (asked : Bool) (r : Result ⊤ TableFault) (before after : Kernels) → Find r before (found_leaps before) after → OnOk r (asked ≡ true → after.leaps ≡ true)
+pub found-leaps : (asked : Bool) (r : Result ⊤ TableFault) (before after : Kernels) → Find r (refused_leaps before) (found_leaps before) after → OnOk r (asked ≡ true → after.leaps ≡ true)
 found-leaps asked (Ok done) before after e = λ _. ap (λ (k : Kernels). k.leaps) e
 found-leaps asked (Err fault) before after e = tt
 
-pub found-constants : (asked : Bool) (r : Result ⊤ TableFault) (before after : Kernels) → Find r before (found_constants before) after
+pub found-constants : (asked : Bool) (r : Result ⊤ TableFault) (before after : Kernels) → Find r (refused_constants before) (found_constants before) after
     → OnOk r (asked ≡ true → after.constants ≡ true)
 found-constants asked (Ok done) before after e = λ _. ap (λ (k : Kernels). k.constants) e
 found-constants asked (Err fault) before after e = tt
 
 pub found-clock : (asked : Bool) (n : ℕ) (clock : Option ℕ) (r : Result ⊤ TableFault) (before after : Kernels) → clock ≡ Some n
-    → Find r before (found_clock n before) after → OnOk r (asked ≡ true → after.clock ≡ clock)
+    → Find r (refused_clock n before) (found_clock n before) after → OnOk r (asked ≡ true → after.clock ≡ clock)
 found-clock asked n clock (Ok done) before after is e = λ _. ap (λ (k : Kernels). k.clock) e ∙ sym is
 found-clock asked n clock (Err fault) before after is e = tt
 

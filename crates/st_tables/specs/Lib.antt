@@ -3,6 +3,7 @@ pub mod ClockSteps
 pub mod Kept
 pub mod KeptSteps
 pub mod Kernels
+pub mod KernelsSteps
 pub mod Laws
 pub mod Names
 pub mod Tables

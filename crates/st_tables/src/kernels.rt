@@ -6,7 +6,8 @@ ghost use Rattle.st_pool.specs.Limits.{most_kernels, most_values};
 ghost use Rattle.st_pool.specs.Loaded.{is_loaded, loaded_count, value_count, without_last};
 ghost use Rattle.st_pool.specs.declared.fault.LoadFault.TheVariants.{TooManyKernels, TooManyValues};
 ghost use Rattle.st_tables.specs.Kept.{HasLeapsOf, HasConstantsOf, HasClockOf};
-ghost use Rattle.st_tables.specs.Kernels.{Find, FindsLeaps, FindsConstants, FindsClock, found_none, found_leaps, found_constants, found_clock};
+ghost use Rattle.st_tables.specs.Kernels.{Find, FindsLeaps, FindsConstants, FindsClock, found_none, found_leaps, found_constants, found_clock, lasting as lasting_fault, refused_leaps, refused_constants, refused_clock};
+ghost use Rattle.st_tables.specs.declared.fault.TableFault.{TableFault as TheFault};
 ghost use Rattle.st_tables.specs.Tables.{LeapsGive, ConstantsGive, ClockGives};
 
 use crate::fault::TableFault;
@@ -19,14 +20,16 @@ use st_scales::Deltet;
 use std::alloc::Global;
 use std::marker::Model;
 
-/// The loaded kernels with the tables that they gave. A table that was found stays found until a kernel is loaded or
-/// unloaded, a clock also until another one is found: finding it again compares nothing. After that a kept table is
-/// compared with the loaded kernels once.
+/// The loaded kernels with the tables that they gave or refused. A table that was found stays found until a kernel is
+/// loaded or unloaded, a clock also until another one is found: finding it again compares nothing. After that a kept
+/// table is compared with the loaded kernels once. A refusal stays for as long, that of a clock also until another one
+/// is refused, and is answered again without a look at the loaded kernels.
 #[derive(Debug, Drop)]
 pub struct Kernels {
     pool: Pool,
     tables: Tables,
     found: Found,
+    refused: Refused,
 }
 
 /// Which kept tables are those of the loaded kernels.
@@ -60,14 +63,74 @@ impl Found {
     }
 }
 
+/// Why the loaded kernels refuse tables, as far as that is known.
+#[derive(Clone, Copy, Debug)]
+struct Refused {
+    leaps: Option<TableFault>,
+    constants: Option<TableFault>,
+    /// The id of a refused clock, without its sign, and why it is refused.
+    clock: Option<(u32, TableFault)>,
+}
+
+impl Refused {
+    ghost use Rattle.std.specs.Prelude.{None, Some};
+
+    /// No refusal is known.
+    fn none() -> Refused
+        ensures { result ≡ record { leaps = None; constants = None; clock = None } }
+    {
+        Refused {
+            leaps: None,
+            constants: None,
+            clock: None,
+        }
+    }
+
+    /// Why the clock of the id -n is refused, where that is known.
+    fn of_clock(&self, n: u32) -> Option<TableFault>
+        ensures some { IfSome result (λ fault. self.now.clock ≡ Some (n, fault)) }
+        ensures none { (fault : TheFault) → self.now.clock ≡ Some (n, fault) → result ≡ Some fault }
+    {
+        match self.clock {
+            Some((refused, fault)) if refused == n => Some(fault),
+            _ => None,
+        }
+    }
+}
+
+/// The refusal that is kept after a fault in place of the one before. Want of memory is never kept.
+fn lasting(fault: TableFault, before: Option<TableFault>) -> Option<TableFault>
+    ensures { result ≡ lasting_fault fault fault before }
+{
+    match fault {
+        TableFault::OutOfMemory => before,
+        _ => Some(fault),
+    }
+}
+
+/// The same for the clock of the id -n.
+fn lasting_clock(
+    n: u32,
+    fault: TableFault,
+    before: Option<(u32, TableFault)>,
+) -> Option<(u32, TableFault)>
+    ensures { result ≡ lasting_fault fault (n, fault) before }
+{
+    match fault {
+        TableFault::OutOfMemory => before,
+        _ => Some((n, fault)),
+    }
+}
+
 impl Model for Kernels {
-    ghost use Rattle.st_tables.specs.Kernels.{Kernels as SeenKernels, AreFound};
+    ghost use Rattle.st_tables.specs.Kernels.{Kernels as SeenKernels, AreKnown};
+    ghost use Rattle.st_tables.specs.KernelsSteps.{seen};
 
     ghost Value = { SeenKernels };
 
-    ghost view = { λ k. record { loaded = k.pool; kept = k.tables; leaps = k.found.leaps; constants = k.found.constants; clock = k.found.clock } };
+    ghost view = { λ k. seen k.pool k.tables k.found k.refused };
 
-    ghost invariant = { λ k. AreFound (record { loaded = k.pool; kept = k.tables; leaps = k.found.leaps; constants = k.found.constants; clock = k.found.clock }) };
+    ghost invariant = { λ k. AreKnown (seen k.pool k.tables k.found k.refused) };
 }
 
 impl Kernels {
@@ -81,6 +144,7 @@ impl Kernels {
             pool: Pool::new(alloc),
             tables: Tables::new(alloc),
             found: Found::none(),
+            refused: Refused::none(),
         }
     }
 
@@ -91,7 +155,7 @@ impl Kernels {
         &self.pool
     }
 
-    /// Loads a kernel after all others, also where one of its name is loaded already. No table is then found.
+    /// Loads a kernel after all others, also where one of its name is loaded already. Nothing is then found or refused.
     ///
     /// # Errors
     ///
@@ -107,10 +171,11 @@ impl Kernels {
     {
         self.pool.load(name, assignments)?;
         self.found = Found::none();
+        self.refused = Refused::none();
         Ok(())
     }
 
-    /// Unloads the last loaded kernel of the name. No table is then found.
+    /// Unloads the last loaded kernel of the name. Nothing is then found or refused.
     ///
     /// # Errors
     ///
@@ -122,68 +187,106 @@ impl Kernels {
     {
         self.pool.unload(name)?;
         self.found = Found::none();
+        self.refused = Refused::none();
         Ok(())
     }
 
-    /// Unloads all kernels. No table is then found.
+    /// Unloads all kernels. Nothing is then found or refused.
     pub fn clear(&mut self)
         ensures { self.new ≡ found_none [] self.old.kept }
     {
         self.pool.clear();
         self.found = Found::none();
+        self.refused = Refused::none();
     }
 
     /// Finds the table of leap seconds that the loaded kernels give.
     ///
     /// # Errors
     ///
-    /// [`TableFault`], as of [`Tables::leaps`]; all is then as before.
+    /// [`TableFault`], as of [`Tables::leaps`], which is kept unless it is want of memory; all else is then as before.
     pub fn find_leaps(&mut self) -> Result<(), TableFault>
         ensures gives { FindsLeaps self.old.loaded result }
-        ensures found { Find result self.old (found_leaps self.old) self.new }
+        ensures found { Find result (refused_leaps self.old) (found_leaps self.old) self.new }
+        ensures refused { IfSome self.old.refused.leaps (λ fault. result ≡ Err fault) }
         ensures no_memory { HasLeapsOf self.old.loaded self.old.kept → IsOk result }
     {
-        if !self.found.leaps {
-            self.tables.leaps(&self.pool)?;
-            self.found.leaps = true;
+        if let Some(fault) = self.refused.leaps {
+            return Err(fault);
         }
-        Ok(())
+        if self.found.leaps {
+            return Ok(());
+        }
+        match self.tables.leaps(&self.pool) {
+            Ok(_) => {
+                self.found.leaps = true;
+                Ok(())
+            }
+            Err(fault) => {
+                self.refused.leaps = lasting(fault, self.refused.leaps);
+                Err(fault)
+            }
+        }
     }
 
     /// Finds the constants of the scales that the loaded kernels give.
     ///
     /// # Errors
     ///
-    /// [`TableFault`], as of [`Tables::deltet`]; all is then as before.
+    /// [`TableFault`], as of [`Tables::deltet`], which is kept unless it is want of memory; all else is then as before.
     pub fn find_deltet(&mut self) -> Result<(), TableFault>
         ensures gives { FindsConstants self.old.loaded result }
-        ensures found { Find result self.old (found_constants self.old) self.new }
+        ensures found { Find result (refused_constants self.old) (found_constants self.old) self.new }
+        ensures refused { IfSome self.old.refused.constants (λ fault. result ≡ Err fault) }
         ensures no_memory { HasConstantsOf self.old.loaded self.old.kept → IsOk result }
     {
-        if !self.found.constants {
-            self.tables.deltet(&self.pool)?;
-            self.found.constants = true;
+        if let Some(fault) = self.refused.constants {
+            return Err(fault);
         }
-        Ok(())
+        if self.found.constants {
+            return Ok(());
+        }
+        match self.tables.deltet(&self.pool) {
+            Ok(_) => {
+                self.found.constants = true;
+                Ok(())
+            }
+            Err(fault) => {
+                self.refused.constants = lasting(fault, self.refused.constants);
+                Err(fault)
+            }
+        }
     }
 
     /// Finds the clock of the spacecraft whose id is -n that the loaded kernels give. n lies from 1 to 999,999,999.
     ///
     /// # Errors
     ///
-    /// [`TableFault`], as of [`Tables::clock`]; all is then as before.
+    /// [`TableFault`], as of [`Tables::clock`], which is kept unless it is want of memory; all else is then as before.
     pub fn find_clock(&mut self, n: u32) -> Result<(), TableFault>
         requires from { 1 ≤ n }
         requires to { n ≤ 999_999_999 }
         ensures gives { FindsClock n self.old.loaded result }
-        ensures found { Find result self.old (found_clock n self.old) self.new }
+        ensures found { Find result (refused_clock n self.old) (found_clock n self.old) self.new }
+        ensures refused { IfSome self.old.refused.clock (λ kept. kept.0 ≡ n → result ≡ Err kept.1) }
         ensures no_memory { HasClockOf n self.old.loaded self.old.kept → IsOk result }
     {
-        if !self.found.has_clock(n) {
-            self.tables.clock(&self.pool, n)?;
-            self.found.clock = Some(n);
+        if let Some(fault) = self.refused.of_clock(n) {
+            return Err(fault);
         }
-        Ok(())
+        if self.found.has_clock(n) {
+            return Ok(());
+        }
+        match self.tables.clock(&self.pool, n) {
+            Ok(_) => {
+                self.found.clock = Some(n);
+                Ok(())
+            }
+            Err(fault) => {
+                self.refused.clock = lasting_clock(n, fault, self.refused.clock);
+                Err(fault)
+            }
+        }
     }
 
     /// The table of leap seconds, which is found.
