@@ -11,7 +11,7 @@ use Rattle.st_pool.specs.Variable.{loaded_values, loaded_kind}
 use Rattle.st_pool.specs.declared.kernel.Kernel.{Kernel}
 use Rattle.st_pool.specs.declared.kind.Kind.TheVariants.{Numbers}
 use Rattle.st_ticks.specs.declared.variable.Var.{Var}
-use Rattle.st_ticks.specs.declared.variable.Var.TheVariants.{DeltaAt, DeltaTa, K, Eb, M, Clock, LeapsecondsFile, SclkFile, SpacecraftId}
+use Rattle.st_ticks.specs.declared.variable.Var.TheVariants.{LeapsecondsFile, SclkFile}
 use Rattle.st_words.specs.Setup.{SetupClock, SetupFiles, IsClockOf, IsId, id_name, leapseconds_name, names_files}
 use Rattle.st_words.specs.declared.fault.IdFault.{IdFault}
 use Rattle.st_words.specs.declared.fault.IdFault.TheVariants.{Missing, WrongKind as NoNumber, BadId}
@@ -76,13 +76,7 @@ wrong : (loaded : List Kernel) (var : Var) → SetupFiles loaded (Err (WrongKind
 unfolding wrong_first
 wrong loaded LeapsecondsFile h = (sym (ap wrong_first h), λ names k. false≢true (sym h ∙ k.0))
 wrong loaded SclkFile h = (sym (ap wrong_first h.0), λ names k. false≢true (sym h.1 ∙ k.1))
-wrong loaded DeltaAt h = absurd h
-wrong loaded DeltaTa h = absurd h
-wrong loaded K h = absurd h
-wrong loaded Eb h = absurd h
-wrong loaded M h = absurd h
-wrong loaded (Clock var n) h = absurd h
-wrong loaded SpacecraftId h = absurd h
+wrong loaded other h = absurd h
 
 pub one-files : (loaded : List Kernel) (a b : Result (List (List ℕ)) SetupFault) → SetupFiles loaded a → SetupFiles loaded b → a ≡ b
 one-files loaded (Ok a) (Ok b) h k = ap (λ (x : List (List ℕ)). Ok x) (h.2 ∙ sym k.2)
