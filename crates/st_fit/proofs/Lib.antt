@@ -1,0 +1,11 @@
+pub mod Places
+pub mod Quotient
+pub mod Lines
+pub mod Runs
+pub mod Narrowing
+pub mod Cuttings
+pub mod Uniques
+pub mod Starting
+pub mod Records
+pub mod Writing
+pub mod Finding
