@@ -85,7 +85,7 @@ ROWS = (
 
 def instructions(program, folder, words, lines):
     said = subprocess.run(
-        ["valgrind", "--tool=callgrind", "--callgrind-out-file=/dev/null", program, "-setup", "k.ker"] + words + ["-batch"],
+        ["valgrind", "--tool=callgrind", "--callgrind-out-file=/dev/null", program, "-setup", "k.ker", *words, "-batch"],
         cwd=folder, input=lines.encode(), stdout=subprocess.PIPE, stderr=subprocess.PIPE, check=False)
     found = re.search(rb"refs:\s+([\d,]+)", said.stderr)
     if not found:
