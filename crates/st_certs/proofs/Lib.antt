@@ -1,3 +1,4 @@
 pub mod Chains
+pub mod RowLaws
 pub mod Tdbs
 pub mod Ways

@@ -1,3 +1,5 @@
 pub mod Form
 pub mod Sound
 pub mod Verdict
+pub mod Laws
+pub mod Steps

@@ -6,6 +6,8 @@
 #![tactic(auto)]
 
 mod certificate;
+pub mod laws;
+mod rows;
 mod why;
 
 pub use certificate::{Certificate, Constants, Row, SineChain, SineProof};
