@@ -157,7 +157,7 @@ impl Columns {
         let later = past_utc.saturating_add(sine);
         let label = date_text(alloc, noon.date, 0)?;
         add_line(&mut self.labels, label.as_str())?;
-        let micros = (i64::from(noon.day) * 86_400).saturating_mul(1_000_000);
+        let micros = i64::from(noon.day).saturating_mul(86_400_000_000);
         let seconds = seconds_text(alloc, micros.saturating_add(later))?;
         add_line(&mut self.seconds, seconds.as_str())?;
         add_line(
@@ -279,15 +279,26 @@ fn days_and_labels(rt: HostRuntime) -> Result<(), Fail> {
         assert_eq!(rt; u32::from(civil.doy), noon.place);
         // Midnight, noon and the day's last unit.
         for of_day in [0, 43_200 * SECOND, 86_400 * SECOND - 1] {
-            let label = Label { day, of_day };
-            let formal = i128::from(day) * 86_400 * SECOND + of_day - 43_200 * SECOND;
-            assert_eq!(rt; formal_of(label), formal);
-            assert_eq!(rt; label_of(formal), label);
             let is_end = day == 73_049 && of_day == 0;
-            assert_eq!(rt; is_in_range(label), noon.sine.is_some() || is_end);
+            let lies = noon.sine.is_some() || is_end;
+            assert_eq!(rt; is_in_range(Label { day, of_day }), lies);
+            if lies {
+                counts_back(&rt, Label { day, of_day });
+            }
         }
     }
     Ok(())
+}
+
+/// The formal count of a label leads back to it.
+fn counts_back(rt: &impl Abort, label: Label) {
+    let Label { day, of_day } = label;
+    assert!(rt; -73_048 <= day && day <= 73_049);
+    assert!(rt; 0 <= of_day && of_day < 86_400 * SECOND);
+    let formal = i128::from(day) * 86_400 * SECOND + of_day - 43_200 * SECOND;
+    assert!(rt; -6_311_600_000 * SECOND <= formal && formal <= 6_311_600_000 * SECOND);
+    assert_eq!(rt; formal_of(label), formal);
+    assert_eq!(rt; label_of(formal), label);
 }
 
 /// The words after `-setup`, without the time that follows them; the time; and the line that is written.
