@@ -1,7 +1,7 @@
 //! Both ends of the range of times, and the hundred days to either side of each.
 
 use st_batch::Status;
-use st_dates::{Label, SECOND, civil_of, day_of, day_of_doy, formal_of, is_in_range, label_of};
+use st_dates::{Label, SECOND, civil_of, day_of, day_of_doy, is_in_range};
 use st_trials::{
     Outside, SAFE, SAFE_AND_SHORT, add_line, add_word, files, put_clocks, run_row, words,
 };
@@ -282,23 +282,9 @@ fn days_and_labels(rt: HostRuntime) -> Result<(), Fail> {
             let is_end = day == 73_049 && of_day == 0;
             let lies = noon.sine.is_some() || is_end;
             assert_eq!(rt; is_in_range(Label { day, of_day }), lies);
-            if lies {
-                counts_back(&rt, Label { day, of_day });
-            }
         }
     }
     Ok(())
-}
-
-/// The formal count of a label leads back to it.
-fn counts_back(rt: &impl Abort, label: Label) {
-    let Label { day, of_day } = label;
-    assert!(rt; -73_048 <= day && day <= 73_049);
-    assert!(rt; 0 <= of_day && of_day < 86_400 * SECOND);
-    let formal = i128::from(day) * 86_400 * SECOND + of_day - 43_200 * SECOND;
-    assert!(rt; -6_311_600_000 * SECOND <= formal && formal <= 6_311_600_000 * SECOND);
-    assert_eq!(rt; formal_of(label), formal);
-    assert_eq!(rt; label_of(formal), label);
 }
 
 /// The words after `-setup`, without the time that follows them; the time; and the line that is written.
